@@ -20,8 +20,8 @@ pub fn pass_path_err<O: Outbox>(
     message: &PathErrMsg,
     out: &mut O,
 ) -> Heard
-    ensures heard { (c : ℕ) (n : State) → n.place ≡ config.now → n.senders ≡ senders.now → n.paths ≡ paths.now.facts → result ≡ path_err_heard c n iface message.now }
-    ensures sent { (c : ℕ) (n : State) → n.place ≡ config.now → n.senders ≡ senders.now → n.paths ≡ paths.now.facts → out.new ≡ fold O.posted out.old (path_err_sent c n iface message.now) }
+    ensures heard { (c : ℕ) (n : State) → n.place ≡ config.now → n.senders ≡ senders.now.tspecs → n.paths ≡ paths.now.facts → result ≡ path_err_heard c n iface message.now }
+    ensures sent { (c : ℕ) (n : State) → n.place ≡ config.now → n.senders ≡ senders.now.tspecs → n.paths ≡ paths.now.facts → out.new ≡ fold O.posted out.old (path_err_sent c n iface message.now) }
 {
     let Some(sender) = message.sender else {
         return Heard::Dropped(Why::NoSender);

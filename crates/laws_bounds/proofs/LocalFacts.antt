@@ -26,7 +26,7 @@ use Rattle.laws_inputs.specs.RouterRules.Act.{act}
 use Rattle.laws_inputs.specs.RouterRules.Bounds.{IsWantShape, IsWantShaped}
 use Rattle.laws_inputs.specs.RouterRules.Calls.{SendersOf, call_refusal, needs, unless, wanted}
 use Rattle.laws_inputs.specs.RouterRules.Facts.{Facts, SenderKey, Want, WantKey, Wants, sender_keys, want_keys, wants_in}
-use Rattle.laws_inputs.specs.RouterRules.Inputs.{Input, Call, Wait, Clear, Came, Moved, SendAs, DropAs, WantAs, QuitAll}
+use Rattle.laws_inputs.specs.RouterRules.Inputs.{Input, Call, Wait, Clear, Came, Moved, SendAs, DropAs, AdvertAs, WantAs, QuitAll}
 use Rattle.laws_inputs.specs.RouterRules.NodeConfig.{NodeConfig, is_own, is_session}
 use Rattle.laws_inputs.specs.RouterRules.Requests.{is_style}
 use Rattle.laws_inputs.proofs.Lists.{got_with_rows, to_values}
@@ -57,6 +57,7 @@ senders_sound p c (Call (SendAs s x tspec)) f fit w =
     w
 senders_sound p c (Call (DropAs s x)) f fit w =
     unless_by AllSound (call_refusal p (DropAs s x) f) (without f.senders (s, x)) f.senders (λ n k t e. w k t (got_without sender_keys f.senders (s, x) k t e)) w
+senders_sound p c (Call (AdvertAs s x)) f fit w = subst AllSound (sym (act_senders p c (Call (AdvertAs s x)) f refl)) w
 senders_sound p c (Call (WantAs s st names flow mark)) f fit w = subst AllSound (sym (act_senders p c (Call (WantAs s st names flow mark)) f refl)) w
 senders_sound p c (Call (QuitAll s)) f fit w = subst AllSound (sym (act_senders p c (Call (QuitAll s)) f refl)) w
 senders_sound p c (Wait ms word) f fit w = w
@@ -76,6 +77,7 @@ senders_within p c (Call (DropAs s x)) f w =
     unless_by (IsWithinSessionLimits senders) (call_refusal p (DropAs s x) f) (without f.senders (s, x)) f.senders
     (λ n. fewer_rows senders f.senders (without f.senders (s, x)) (λ k t e. got_without sender_keys f.senders (s, x) k t e) w)
     w
+senders_within p c (Call (AdvertAs s x)) f w = subst (IsWithinSessionLimits senders) (sym (act_senders p c (Call (AdvertAs s x)) f refl)) w
 senders_within p c (Call (WantAs s st names flow mark)) f w = subst (IsWithinSessionLimits senders) (sym (act_senders p c (Call (WantAs s st names flow mark)) f refl)) w
 senders_within p c (Call (QuitAll s)) f w = subst (IsWithinSessionLimits senders) (sym (act_senders p c (Call (QuitAll s)) f refl)) w
 senders_within p c (Wait ms word) f w = w
@@ -193,6 +195,7 @@ act_wants_keep p c (Call (QuitAll s)) f fit w =
     (λ n. fewer_wants f.wants (kept (λ k. not (is_session k.0 s)) f.wants) (λ k x e. (got_kept want_keys (λ k. not (is_session k.0 s)) f.wants k x e).1) w) w
 act_wants_keep p c (Call (SendAs s x tspec)) f fit w = subst AreWantsWithin (sym (act_wants p c (Call (SendAs s x tspec)) f refl)) w
 act_wants_keep p c (Call (DropAs s x)) f fit w = subst AreWantsWithin (sym (act_wants p c (Call (DropAs s x)) f refl)) w
+act_wants_keep p c (Call (AdvertAs s x)) f fit w = subst AreWantsWithin (sym (act_wants p c (Call (AdvertAs s x)) f refl)) w
 act_wants_keep p c (Wait ms word) f fit w = w
 act_wants_keep p c Clear f fit w = w
 act_wants_keep p c Moved f fit w = w

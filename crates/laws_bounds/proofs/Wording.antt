@@ -58,7 +58,7 @@ use Rattle.laws_inputs.specs.RouterRules.Facts.{Facts, PathState, ResvState, Wan
 use Rattle.laws_inputs.specs.RouterRules.Inputs.{Asked, Call, Came, Clear, ConfSend, ErrSend, Input, Moved, Send, Spelt, Unspelt, Wait}
 use Rattle.laws_inputs.specs.RouterRules.Known.{Lane, known, named_as, names_via, names_via_where, via}
 use Rattle.laws_inputs.specs.RouterRules.NodeConfig.{NodeConfig, goes_out, is_own}
-use Rattle.laws_inputs.specs.RouterRules.Offers.{advert_by, advert_of}
+use Rattle.laws_inputs.specs.RouterRules.Offers.{advert_by, advert_of, own_advert}
 use Rattle.laws_inputs.specs.RouterRules.declared.advert.Advert.{Advert}
 use Rattle.laws_inputs.specs.RouterRules.Requests.{requests, toward, want_part}
 use Rattle.laws_inputs.specs.RouterRules.Rule.{settled}
@@ -462,6 +462,12 @@ passed_proper on None h = tt
 passed_proper None (Some a) h = tt
 passed_proper (Some i) (Some a) h = what_is_composed_can_be_written.pass_on a i h
 
+-- and what begins here
+begun_proper : (on : Option Iface) (advertised : Bool) → WhereThere IsAdspec (advert_by on (own_advert advertised))
+begun_proper on false = tt
+begun_proper None true = tt
+begun_proper (Some i) true = what_is_composed_can_be_written.start i
+
 -- ---- all sends
 module _ (old p : NodeConfig) (b : ℕ) (i : Input) (f : Facts) (some : 1 ≤ p.quarter) (fit : IsFit p i) (w : IsWithinBounds p b f) where
   abbrev after : Facts
@@ -481,7 +487,8 @@ module _ (old p : NodeConfig) (b : ℕ) (i : Input) (f : Facts) (some : 1 ≤ p.
       let told : WhereThere IsAdspec (told_at p r.key.iface r.offer) =
       ⊎_elim
       (λ (q : IsLocalOffer (facts_then old p (clock_after b i) i f) r.key r.offer).
-      subst (λ (z : Advert). WhereThere IsAdspec (advert_by (slice_get p.ifaces r.key.iface) z)) (sym q.advert) tt)
+      subst (λ (z : Advert). WhereThere IsAdspec (advert_by (slice_get p.ifaces r.key.iface) z)) (sym q.advert)
+      (begun_proper (slice_get p.ifaces r.key.iface) (has (facts_then old p (clock_after b i) i f).advertised (r.key.session, r.key.sender))))
       (λ (q : IsPathOffer (facts_then old p (clock_after b i) i f) r.key r.offer).
       subst (λ (z : Advert). WhereThere IsAdspec (advert_by (slice_get p.ifaces r.key.iface) z)) (sym q.advert)
       (passed_proper (slice_get p.ifaces r.key.iface) q.path.adspec (within_then.shapes.paths (r.key.session, r.key.sender) q.path q.there).adspec))

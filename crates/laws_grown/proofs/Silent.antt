@@ -8,7 +8,7 @@ use Rattle.calm_rounds.specs.Machine.{run}
 use Rattle.tree_model.specs.declared.locals.LocalSender.{LocalSender}
 use Rattle.network_model.specs.Events.{a_round, half, halves, pass, rounds}
 use Rattle.network_model.specs.Runs.{heard_line, text_of}
-use Rattle.network_model.specs.Steps.{At, ClearAt, Copy, Deliver, Flags, Inject, Lose, Piece, Report, Reroute, Step, Trace, machine, step}
+use Rattle.network_model.specs.Steps.{At, ClearAt, Copy, Deliver, Flags, Adverts, Inject, Lose, Piece, Report, Reroute, Step, Trace, machine, step}
 use Rattle.network_model.specs.Worlds.{World}
 use Rattle.grown_network.specs.declared.hosts.Wanted.{Wanted}
 use Rattle.laws_grown.proofs.Sending.{send_step}
@@ -62,5 +62,6 @@ module _ (q : ℕ) where
       by (Trace on) is rest = absurd (cc)
       by (Report e) is rest = absurd (cc)
       by Flags is rest = absurd (cc)
+      by Adverts is rest = absurd (cc)
       by (Inject e dst a) is rest = absurd (cc)
       by (Reroute g x hops) is rest = absurd (cc)

@@ -28,7 +28,7 @@ use Rattle.router_rules.specs.declared.answers.LocalErr.TheVariants as local
 use Rattle.router_rules.specs.declared.answers.StaleErr.{StaleErr}
 use Rattle.router_rules.specs.declared.answers.StaleErr.TheVariants as stale
 use Rattle.router_rules.specs.Books.{book, fits, refused as refused_entry}
-use Rattle.router_rules.specs.Calls.{act_call, act_stale, call_refusal, entry_of, needs, senders_with, stale_refusal, unless, wanted, wants_with, with_left}
+use Rattle.router_rules.specs.Calls.{act_call, act_stale, advertised_with, call_refusal, entry_of, needs, senders_with, stale_refusal, unless, wanted, wants_with, with_left}
 use Rattle.router_rules.specs.Facts.{Facts, ResvState, Want, WantKey, Wants, resvs_of, want_keys, wants_in, with_resvs}
 use Rattle.router_rules.specs.Inputs.{Call, Local, QuitAll, Stale, only_heard}
 use Rattle.router_rules.specs.NodeConfig.{NodeConfig, is_own, is_session}
@@ -125,6 +125,8 @@ call_refusals =
       sends = λ p f s x tspec. two_none local.NotMine local.Full not_mine_full (is_own p x.addr) (room_for f (s, x) tspec);
       no_sender = λ p f s x. one_some local.Absent (has f.senders (s, x));
       drops = λ p f s x. one_none local.Absent (has f.senders (s, x));
+      nothing_to_advertise = λ p f s x. one_some local.Absent (has f.senders (s, x));
+      advertises = λ p f s x. one_none local.Absent (has f.senders (s, x));
       style = λ p f s st names flow mark. then_told (two_first local.Style local.Full style_full (not (finds_other f s st)) (room_for_wants f s st names flow mark)) (other_tells f s st).0;
       want_full = λ p f s st names flow mark. then_told (two_second local.Style local.Full style_full (not (finds_other f s st)) (room_for_wants f s st names flow mark))
           (beside_told (other_tells f s st).1);
@@ -182,9 +184,17 @@ wanted_agree s Fixed names flow mark k v w i j =
     ap (λ (z : WantKey × Want). z.1) (a.2 ∙ ap (fixed_row s flow mark) same ∙ sym b.2)
 
 -- ---- what calls leave
+abbrev called : Local → Facts → Option LocalErr → Facts
+called l f w =
+    record f {
+      senders = unless w (senders_with l f.senders) f.senders;
+      advertised = unless w (advertised_with l f.advertised) f.advertised;
+      wants = unless w (wants_with l f.wants) f.wants;
+    }
+
 call_by : (p : NodeConfig) (l : Local) (f : Facts) (w : Option LocalErr) → call_refusal p l f ≡ w
-    → act_call p l f ≡ only_heard heard.Taken (record f { senders = unless w (senders_with l f.senders) f.senders; wants = unless w (wants_with l f.wants) f.wants })
-call_by p l f w e = ap (λ v. only_heard heard.Taken (record f { senders = unless v (senders_with l f.senders) f.senders; wants = unless v (wants_with l f.wants) f.wants })) e
+    → act_call p l f ≡ only_heard heard.Taken (called l f w)
+call_by p l f w e = ap (λ v. only_heard heard.Taken (called l f v)) e
 
 quit_at : (s : Session) (t : Wants) (k : WantKey) (b : Bool) → is_session k.0 s ≡ b → get (wants_with (QuitAll s) t) k ≡ cond (not b) (get t k) None
 quit_at s t k b e = get-kept want_keys (λ k. not (is_session k.0 s)) t k ∙ ap (λ b. cond (not b) (get t k) None) e

@@ -9,30 +9,31 @@ use Rattle.router_rules.specs.RsvpMessages.declared.message.Message.TheVariants 
 use Rattle.router_rules.specs.Act.{act, act_spelt, is_mine}
 use Rattle.router_rules.specs.Calls.{unless}
 use Rattle.router_rules.specs.Facts.{Facts, Want, WantKey, Wants, want_keys}
-use Rattle.router_rules.specs.Inputs.{Change, Input, Call, Wait, Clear, Came, Moved, Spelt, Unspelt, SendAs, DropAs, WantAs, QuitAll}
+use Rattle.router_rules.specs.Inputs.{Change, Input, Call, Wait, Clear, Came, Moved, Spelt, Unspelt, SendAs, DropAs, AdvertAs, WantAs, QuitAll}
 use Rattle.router_rules.specs.NodeConfig.{NodeConfig}
 use Rattle.router_rules.specs.Rule.{is_silent, settled, spoken}
 use Rattle.router_rules.specs.Sends.{unmarked, used_marks}
 use Rattle.laws_inputs.proofs.Lists.{some_same}
-use Rattle.laws_inputs.specs.Frames.{AreSameButMarks, on_paths, on_resvs, on_senders, on_walls, on_wants, tells_of_paths, tells_of_resvs, tells_of_walls}
+use Rattle.laws_inputs.specs.Frames.{AreSameButMarks, on_advertised, on_paths, on_resvs, on_senders, on_walls, on_wants, tells_of_paths, tells_of_resvs, tells_of_walls}
 use Rattle.router_rules.specs.Steps.{facts_then}
 
 -- ---- what no message changes by itself
 pub record LeavesLocals (f : Facts) (k : Change) : Type 0 where
   pub senders : k.facts.senders ≡ f.senders
+  pub advertised : k.facts.advertised ≡ f.advertised
   pub wants : k.facts.wants ≡ f.wants
   pub due : k.facts.due ≡ f.due
   pub fired : k.fired ≡ empty
 
 pub spelt_leaves : (p : NodeConfig) (c e : ℕ) (m : Message) (b : Bool) (f : Facts) → LeavesLocals f (act_spelt p c e m b f)
-spelt_leaves p c e m false f = record { senders = refl; wants = refl; due = refl; fired = refl }
-spelt_leaves p c e (message.Path m) true f = record { senders = refl; wants = refl; due = refl; fired = refl }
-spelt_leaves p c e (message.Resv m) true f = record { senders = refl; wants = refl; due = refl; fired = refl }
-spelt_leaves p c e (message.PathErr m) true f = record { senders = refl; wants = refl; due = refl; fired = refl }
-spelt_leaves p c e (message.ResvErr m) true f = record { senders = refl; wants = refl; due = refl; fired = refl }
-spelt_leaves p c e (message.PathTear m) true f = record { senders = refl; wants = refl; due = refl; fired = refl }
-spelt_leaves p c e (message.ResvTear m) true f = record { senders = refl; wants = refl; due = refl; fired = refl }
-spelt_leaves p c e (message.ResvConf m) true f = record { senders = refl; wants = refl; due = refl; fired = refl }
+spelt_leaves p c e m false f = record { senders = refl; advertised = refl; wants = refl; due = refl; fired = refl }
+spelt_leaves p c e (message.Path m) true f = record { senders = refl; advertised = refl; wants = refl; due = refl; fired = refl }
+spelt_leaves p c e (message.Resv m) true f = record { senders = refl; advertised = refl; wants = refl; due = refl; fired = refl }
+spelt_leaves p c e (message.PathErr m) true f = record { senders = refl; advertised = refl; wants = refl; due = refl; fired = refl }
+spelt_leaves p c e (message.ResvErr m) true f = record { senders = refl; advertised = refl; wants = refl; due = refl; fired = refl }
+spelt_leaves p c e (message.PathTear m) true f = record { senders = refl; advertised = refl; wants = refl; due = refl; fired = refl }
+spelt_leaves p c e (message.ResvTear m) true f = record { senders = refl; advertised = refl; wants = refl; due = refl; fired = refl }
+spelt_leaves p c e (message.ResvConf m) true f = record { senders = refl; advertised = refl; wants = refl; due = refl; fired = refl }
 
 -- ---- tables that some messages change
 spelt_paths : (p : NodeConfig) (c e : ℕ) (m : Message) (b : Bool) (f : Facts) → tells_of_paths m ≡ false → (act_spelt p c e m b f).facts.paths ≡ f.paths
@@ -73,6 +74,7 @@ same_either (Some e) x = refl
 pub act_senders : (p : NodeConfig) (c : ℕ) (i : Input) (f : Facts) → on_senders i ≡ false → (act p c i f).facts.senders ≡ f.senders
 act_senders p c (Call (SendAs s x tspec)) f n = absurd (cc)
 act_senders p c (Call (DropAs s x)) f n = absurd (cc)
+act_senders p c (Call (AdvertAs s x)) f n = same_either _ _
 act_senders p c (Call (WantAs s st names flow mark)) f n = same_either _ _
 act_senders p c (Call (QuitAll s)) f n = same_either _ _
 act_senders p c (Wait ms word) f n = refl
@@ -81,9 +83,22 @@ act_senders p c Moved f n = refl
 act_senders p c (Came e dst (Unspelt m)) f n = refl
 act_senders p c (Came e dst (Spelt m)) f n = (spelt_leaves p c e m (is_mine p e dst m) f).senders
 
+pub act_advertised : (p : NodeConfig) (c : ℕ) (i : Input) (f : Facts) → on_advertised i ≡ false → (act p c i f).facts.advertised ≡ f.advertised
+act_advertised p c (Call (SendAs s x tspec)) f n = same_either _ _
+act_advertised p c (Call (DropAs s x)) f n = absurd (cc)
+act_advertised p c (Call (AdvertAs s x)) f n = absurd (cc)
+act_advertised p c (Call (WantAs s st names flow mark)) f n = same_either _ _
+act_advertised p c (Call (QuitAll s)) f n = same_either _ _
+act_advertised p c (Wait ms word) f n = refl
+act_advertised p c Clear f n = refl
+act_advertised p c Moved f n = refl
+act_advertised p c (Came e dst (Unspelt m)) f n = refl
+act_advertised p c (Came e dst (Spelt m)) f n = (spelt_leaves p c e m (is_mine p e dst m) f).advertised
+
 pub act_wants : (p : NodeConfig) (c : ℕ) (i : Input) (f : Facts) → on_wants i ≡ false → (act p c i f).facts.wants ≡ f.wants
 act_wants p c (Call (SendAs s x tspec)) f n = same_either _ _
 act_wants p c (Call (DropAs s x)) f n = same_either _ _
+act_wants p c (Call (AdvertAs s x)) f n = same_either _ _
 act_wants p c (Call (WantAs s st names flow mark)) f n = absurd (cc)
 act_wants p c (Call (QuitAll s)) f n = absurd (cc)
 act_wants p c (Wait ms word) f n = refl

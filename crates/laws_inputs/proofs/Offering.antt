@@ -8,7 +8,7 @@ use Rattle.std.specs.Ordering.{eq_by_cmp}
 use Rattle.router_rules.specs.RsvpBase.Keys.{pairs}
 use Rattle.router_rules.specs.RsvpBase.Members.{In}
 use Rattle.router_rules.specs.RsvpBase.Orders.{sessions, senders}
-use Rattle.router_rules.specs.RsvpBase.Table.{get, keys}
+use Rattle.router_rules.specs.RsvpBase.Table.{get, has, keys}
 use Rattle.router_rules.specs.RsvpBase.TokenBucket.{TokenBucket}
 use Rattle.router_rules.proofs.RsvpBase.Members.{in_each, to_each, in_flat_map, to_flat_map, in_left, in_right, in_filter, to_filter, in_tied, tied_in}
 use Rattle.router_rules.proofs.RsvpBase.SetLaws.{and_both, and_made}
@@ -51,7 +51,7 @@ offered : (f : Facts) (k : OfferKey) (x : Offer) → offer_at f k ≡ Some x →
 offered f k x e = by (get f.senders (k.session, k.sender)) (get f.paths (k.session, k.sender)) refl refl e
   where
     by : (v : Option TokenBucket) (w : Option PathState) → get f.senders (k.session, k.sender) ≡ v → get f.paths (k.session, k.sender) ≡ w
-        → or_else {X = Offer} (option_map own_offer v) (option_map path_offer w) ≡ Some x
+        → or_else {X = Offer} (option_map (own_offer (has f.advertised (k.session, k.sender))) v) (option_map path_offer w) ≡ Some x
         → In (k.session, k.sender) (keys f.senders ++ keys f.paths)
     by (Some v) w g h e = in_left (k.session, k.sender) (keys f.senders) (keys f.paths) (to_keys (pairs sessions senders) f.senders (k.session, k.sender) (ap is_some g))
     by None (Some w) g h e = in_right (k.session, k.sender) (keys f.senders) (keys f.paths) (to_keys (pairs sessions senders) f.paths (k.session, k.sender) (ap is_some h))

@@ -60,6 +60,7 @@ pub rule_in_parts : RuleInParts
 rule_in_parts =
     record {
       senders = λ old p c i f. refl;
+      advertised = λ old p c i f. refl;
       paths = λ old p c i f. refl;
       walls = λ old p c i f. refl;
       resvs = λ old p c i f. refl;

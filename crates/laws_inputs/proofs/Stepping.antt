@@ -130,10 +130,10 @@ came_from old p c (Came e dst (Spelt m)) f k x h = spelt_paths p c e dst f k x m
 
 -- ---- offers
 source_by : (f : Facts) (k : OfferKey) (o : Offer) (u : Option TokenBucket) (w : Option PathState) → get f.senders (k.session, k.sender) ≡ u → get f.paths (k.session, k.sender) ≡ w
-    → or_else (option_map own_offer u) (option_map path_offer w) ≡ Some o
+    → or_else (option_map (own_offer (has f.advertised (k.session, k.sender))) u) (option_map path_offer w) ≡ Some o
     → IsLocalOffer f k o ⊎ IsPathOffer f k o
 source_by f k o (Some flow) w g h e =
-    let is : own_offer flow ≡ o = cc in inl (record { there = g ∙ ap (λ (z : Offer). Some z.tspec) is; local = ap (λ (z : Offer). z.local) (sym is); advert = ap (λ (z : Offer). z.advert) (sym is) })
+    let is : own_offer (has f.advertised (k.session, k.sender)) flow ≡ o = cc in inl (record { there = g ∙ ap (λ (z : Offer). Some z.tspec) is; local = ap (λ (z : Offer). z.local) (sym is); advert = ap (λ (z : Offer). z.advert) (sym is) })
 source_by f k o None (Some path) g h e =
     let is : path_offer path ≡ o = cc in inr (record { no_local = g; path = path; there = h; tspec = ap (λ (z : Offer). z.tspec) (sym is); local = ap (λ (z : Offer). z.local) (sym is); advert = ap (λ (z : Offer). z.advert) (sym is) })
 source_by f k o None None g h e = absurd (cc)
@@ -145,7 +145,7 @@ offer_source f k o e = source_by f k o (get f.senders (k.session, k.sender)) (ge
 pub offered_is_known : (f : Facts) (k : OfferKey) → is_some (offer_at f k) ≡ has (known f k.session) k.sender
 offered_is_known f k = by (get f.senders (k.session, k.sender)) (get f.paths (k.session, k.sender)) ∙ sym (has-known f k.session k.sender)
   where
-    by : (u : Option TokenBucket) (w : Option PathState) → is_some (or_else (option_map own_offer u) (option_map path_offer w)) ≡ (is_some u || is_some w)
+    by : (u : Option TokenBucket) (w : Option PathState) → is_some (or_else (option_map (own_offer (has f.advertised (k.session, k.sender))) u) (option_map path_offer w)) ≡ (is_some u || is_some w)
     by (Some flow) w = refl
     by None (Some path) = refl
     by None None = refl

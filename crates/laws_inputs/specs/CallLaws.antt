@@ -20,11 +20,11 @@ use Rattle.router_rules.specs.declared.answers.StaleErr.TheVariants as stale
 use Rattle.router_rules.specs.Act.{act}
 use Rattle.router_rules.specs.Books.{book, fits, refused as refused_entry}
 use Rattle.router_rules.specs.Bounds.{IsWithinBounds}
-use Rattle.router_rules.specs.Calls.{act_call, act_stale, call_refusal, entry_of, senders_with, stale_refusal, wanted, wants_with, with_left}
+use Rattle.router_rules.specs.Calls.{act_call, act_stale, advertised_with, call_refusal, entry_of, senders_with, stale_refusal, wanted, wants_with, with_left}
 use Rattle.router_rules.specs.Facts.{Blockade, Facts, PathState, ResvState, SenderKey, Want, WantKey, Wants, no_facts, resvs_of, with_resvs}
 use Rattle.router_rules.specs.Targets.{WallKey}
 use Rattle.router_rules.specs.Forgetting.{counted}
-use Rattle.router_rules.specs.Inputs.{Call, Clear, ConfSend, DropAs, ErrSend, Input, Local, QuitAll, SendAs, Stale, StalePath, StaleResv, StaleWall, WantAs, only_heard}
+use Rattle.router_rules.specs.Inputs.{AdvertAs, Call, Clear, ConfSend, DropAs, ErrSend, Input, Local, QuitAll, SendAs, Stale, StalePath, StaleResv, StaleWall, WantAs, only_heard}
 use Rattle.router_rules.specs.NodeConfig.{NodeConfig, is_own, period}
 use Rattle.router_rules.specs.Rule.{is_silent, rule, settled}
 use Rattle.router_rules.specs.Sends.{conf_sends, error_sends}
@@ -60,6 +60,8 @@ pub record CallRefusals : Type 0 where
       ↔ ((is_own p x.addr ≡ true) × (room_for f (s, x) tspec ≡ true))
   pub no_sender : (p : NodeConfig) (f : Facts) (s : Session) (x : Sender) → (call_refusal p (DropAs s x) f ≡ Some local.Absent) ↔ (has f.senders (s, x) ≡ false)
   pub drops : (p : NodeConfig) (f : Facts) (s : Session) (x : Sender) → (call_refusal p (DropAs s x) f ≡ None) ↔ (has f.senders (s, x) ≡ true)
+  pub nothing_to_advertise : (p : NodeConfig) (f : Facts) (s : Session) (x : Sender) → (call_refusal p (AdvertAs s x) f ≡ Some local.Absent) ↔ (has f.senders (s, x) ≡ false)
+  pub advertises : (p : NodeConfig) (f : Facts) (s : Session) (x : Sender) → (call_refusal p (AdvertAs s x) f ≡ None) ↔ (has f.senders (s, x) ≡ true)
   pub style : (p : NodeConfig) (f : Facts) (s : Session) (st : StyleKind) (names : Names) (flow : TokenBucket) (mark : Bool)
       → (call_refusal p (WantAs s st names flow mark) f ≡ Some local.Style) ↔ HasOtherStyle f s st
   pub want_full : (p : NodeConfig) (f : Facts) (s : Session) (st : StyleKind) (names : Names) (flow : TokenBucket) (mark : Bool)
@@ -72,7 +74,8 @@ pub record CallRefusals : Type 0 where
 -- what each call leaves
 pub record CallsLeave : Type 0 where
   pub made : (p : NodeConfig) (l : Local) (f : Facts) → call_refusal p l f ≡ None
-      → act_call p l f ≡ only_heard heard.Taken (record f { senders = senders_with l f.senders; wants = wants_with l f.wants })
+      → act_call p l f
+      ≡ only_heard heard.Taken (record f { senders = senders_with l f.senders; advertised = advertised_with l f.advertised; wants = wants_with l f.wants })
   pub refused : (p : NodeConfig) (l : Local) (f : Facts) (why : LocalErr) → call_refusal p l f ≡ Some why → act_call p l f ≡ only_heard heard.Taken f
   -- a refused call changes nothing of a node, and sends nothing
   pub quiet : (p : NodeConfig) (c : ℕ) (l : Local) (f : Facts) (why : LocalErr) → IsWithinBounds p c f → call_refusal p l f ≡ Some why
@@ -114,7 +117,7 @@ pub record StaleLeaves : Type 0 where
 
 -- ---- clear: local senders and wants alone stay, and their sessions begin a new period; nothing is sent
 abbrev pub cleared : NodeConfig → ℕ → Facts → Facts
-cleared p c f = record no_facts { senders = f.senders; wants = f.wants; due = changed (λ s u. Some (c + period p)) (counted (record no_facts { senders = f.senders })) }
+cleared p c f = record no_facts { senders = f.senders; advertised = f.advertised; wants = f.wants; due = changed (λ s u. Some (c + period p)) (counted (record no_facts { senders = f.senders })) }
 
 abbrev pub ClearLeaves : Type 0
 ClearLeaves = (old p : NodeConfig) (c : ℕ) (f : Facts) → rule old p c Clear f ≡ record { facts = cleared p c f; sent = []; heard = heard.Taken }

@@ -4,7 +4,7 @@ use Rattle.rsvp_base.specs.Table.{get, has}
 use Rattle.router_rules.specs.RsvpMessages.declared.message.Message.{Message}
 use Rattle.router_rules.specs.RsvpMessages.declared.message.Message.TheVariants as message
 use Rattle.router_rules.specs.Facts.{Want, WantKey, Wants}
-use Rattle.router_rules.specs.Inputs.{Local, SendAs, DropAs, WantAs, QuitAll, Input, Call, Wait, Clear, Came, Moved, Spelt, Unspelt}
+use Rattle.router_rules.specs.Inputs.{Local, SendAs, DropAs, AdvertAs, WantAs, QuitAll, Input, Call, Wait, Clear, Came, Moved, Spelt, Unspelt}
 use Rattle.laws_inputs.specs.RuleLaws.{IsWant}
 
 -- ---- which kinds of message may change a table
@@ -39,12 +39,21 @@ tells_of_walls (message.ResvConf m) = false
 abbrev pub calls_on_senders : Local → Bool
 calls_on_senders (SendAs s x tspec) = true
 calls_on_senders (DropAs s x) = true
+calls_on_senders (AdvertAs s x) = false
 calls_on_senders (WantAs s st names flow mark) = false
 calls_on_senders (QuitAll s) = false
+
+abbrev pub calls_on_advertised : Local → Bool
+calls_on_advertised (SendAs s x tspec) = false
+calls_on_advertised (DropAs s x) = true
+calls_on_advertised (AdvertAs s x) = true
+calls_on_advertised (WantAs s st names flow mark) = false
+calls_on_advertised (QuitAll s) = false
 
 abbrev pub calls_on_wants : Local → Bool
 calls_on_wants (SendAs s x tspec) = false
 calls_on_wants (DropAs s x) = false
+calls_on_wants (AdvertAs s x) = false
 calls_on_wants (WantAs s st names flow mark) = true
 calls_on_wants (QuitAll s) = true
 
@@ -55,6 +64,13 @@ on_senders (Wait ms word) = false
 on_senders Clear = false
 on_senders (Came e dst a) = false
 on_senders Moved = false
+
+abbrev pub on_advertised : Input → Bool
+on_advertised (Call l) = calls_on_advertised l
+on_advertised (Wait ms word) = false
+on_advertised Clear = false
+on_advertised (Came e dst a) = false
+on_advertised Moved = false
 
 abbrev pub on_wants : Input → Bool
 on_wants (Call l) = calls_on_wants l

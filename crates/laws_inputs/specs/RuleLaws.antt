@@ -81,6 +81,7 @@ pub record IsWant (w x : Want) : Type 0 where
 
 pub record RuleInParts : Type 0 where
   pub senders : (old p : NodeConfig) (c : ℕ) (i : Input) (f : Facts) → (rule old p c i f).facts.senders ≡ (act p c i f).facts.senders
+  pub advertised : (old p : NodeConfig) (c : ℕ) (i : Input) (f : Facts) → (rule old p c i f).facts.advertised ≡ (act p c i f).facts.advertised
   pub paths : (old p : NodeConfig) (c : ℕ) (i : Input) (f : Facts) → (rule old p c i f).facts.paths ≡ (act p c i f).facts.paths
   pub walls : (old p : NodeConfig) (c : ℕ) (i : Input) (f : Facts) → (rule old p c i f).facts.walls ≡ (act p c i f).facts.walls
   pub resvs : (old p : NodeConfig) (c : ℕ) (i : Input) (f : Facts) → (rule old p c i f).facts.resvs ≡ (forget f (act p c i f).facts).resvs

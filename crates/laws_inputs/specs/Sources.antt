@@ -1,7 +1,7 @@
 -- Where path state and offers come from.
 use Rattle.std.specs.Prelude.{◌≡◌, ℕ, true, Some, None, false}
 use Rattle.rsvp_base.specs.Orders.{senders}
-use Rattle.rsvp_base.specs.Table.{get}
+use Rattle.rsvp_base.specs.Table.{get, has}
 use Rattle.rsvp_base.specs.TokenBucket.{TokenBucket}
 use Rattle.router_rules.specs.RsvpMessages.declared.message.Message.TheVariants as message
 use Rattle.router_rules.specs.RsvpMessages.declared.message.PathMsg.{PathMsg}
@@ -9,8 +9,7 @@ use Rattle.router_rules.specs.Facts.{Facts, PathState, SenderKey}
 use Rattle.router_rules.specs.Inputs.{Input, Came, Spelt}
 use Rattle.router_rules.specs.Paths.{path_state}
 use Rattle.router_rules.specs.NodeConfig.{NodeConfig, comes_in}
-use Rattle.router_rules.specs.Offers.{Offer, OfferKey, advert_of}
-use Rattle.router_rules.specs.declared.advert.Advert.TheVariants.{Silent}
+use Rattle.router_rules.specs.Offers.{Offer, OfferKey, advert_of, own_advert}
 
 -- ---- a Path that counts: it came to its group, with a sender, by the interface that leads to the sender
 pub record CameOnTree (p : NodeConfig) (i : Input) (k : SenderKey) : Type 0 where
@@ -30,11 +29,12 @@ pub record IsLearnt (p : NodeConfig) (c : ℕ) (i : Input) (k : SenderKey) (x : 
   pub by : CameOnTree p i k
   pub is : x ≡ said_by p c i k by
 
--- ---- an offer is of a local sender, with its words, or else of path state, with those of its Path, whose ADSPEC goes on
+-- ---- an offer is of a local sender, with its words, and an ADSPEC that begins here where it is advertised; or else of path state, with
+-- those of its Path, whose ADSPEC goes on
 pub record IsLocalOffer (f : Facts) (k : OfferKey) (o : Offer) : Type 0 where
   pub there : get f.senders (k.session, k.sender) ≡ Some o.tspec
   pub local : o.local ≡ true
-  pub advert : o.advert ≡ Silent
+  pub advert : o.advert ≡ own_advert (has f.advertised (k.session, k.sender))
 
 pub record IsPathOffer (f : Facts) (k : OfferKey) (o : Offer) : Type 0 where
   pub no_local : get f.senders (k.session, k.sender) ≡ None

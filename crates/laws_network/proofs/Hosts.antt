@@ -28,7 +28,7 @@ use Rattle.network_model.specs.RouterRules.declared.answers.LocalErr.TheVariants
 use Rattle.network_model.specs.RouterRules.declared.answers.StaleErr.{StaleErr}
 use Rattle.network_model.specs.RouterRules.Calls.{call_refusal, needs, senders_with, stale_refusal, unless, with_left}
 use Rattle.network_model.specs.RouterRules.Facts.{Facts, SenderKey, no_facts, sender_keys}
-use Rattle.network_model.specs.RouterRules.Inputs.{Call, Input, Local, SendAs, DropAs, WantAs, QuitAll, Stale, Wait, Clear, Moved}
+use Rattle.network_model.specs.RouterRules.Inputs.{Call, Input, Local, SendAs, DropAs, AdvertAs, WantAs, QuitAll, Stale, Wait, Clear, Moved}
 use Rattle.network_model.specs.RouterRules.NodeConfig.{NodeConfig, is_addr, is_own}
 use Rattle.network_model.specs.RouterRules.Rule.{facts_with}
 use Rattle.network_model.specs.RouterRules.Steps.{facts_then, node_step}
@@ -44,11 +44,12 @@ use Rattle.tree_model.proofs.Counts.{not_longer}
 use Rattle.tree_model.proofs.Following.{addr_same, addr_itself, number_same, same_number}
 use Rattle.tree_model.proofs.Ifaces.{interfaces_are_ends}
 use Rattle.network_model.specs.Bounds.{AreBounds, AreHosts}
-use Rattle.network_model.specs.Events.{Event, AtNode, Waits, Pass, DeliverAt, LoseAt, CopyAt, ClearNode, Rounds, Traces, Reports, ReportsFlags, Injects, Reroutes, at_place, passes, pieces}
+use Rattle.network_model.specs.Events.{Event, AtNode, Waits, Pass, DeliverAt, LoseAt, CopyAt, ClearNode, Rounds, Traces, Reports, ReportsFlags}
+use Rattle.network_model.specs.Events.{ReportsAdverts, Injects, Reroutes, at_place, passes, pieces}
 use Rattle.network_model.specs.Events.{rounds, steps_of, all_steps}
 use Rattle.network_model.specs.Locals.{locals_of, sender_at, senders_from}
 use Rattle.network_model.specs.Runs.{Plan, left_over, first_facts, first_world, steps_of_run}
-use Rattle.network_model.specs.Steps.{Step, Piece, Deliver, Lose, Copy, At, ClearAt, Trace, Report, Flags, Inject, Reroute, is_calm, ms_of, net_after, at_node, input_at, outcome}
+use Rattle.network_model.specs.Steps.{Step, Piece, Deliver, Lose, Copy, At, ClearAt, Trace, Report, Flags, Adverts, Inject, Reroute, is_calm, ms_of, net_after, at_node, input_at, outcome}
 use Rattle.network_model.specs.Steps.{outcome_of, word_for, step, machine}
 use Rattle.network_model.specs.Worlds.{World, with_iface, ifaces_at, config_of}
 use Rattle.network_model.proofs.NodeLocals.{sender_of_node, sender_told}
@@ -151,6 +152,11 @@ call_told p n (WantAs s st names flow mark) f ls among k t h = by (call_refusal 
     by : (o : Option LocalErr) → get (unless o f.senders f.senders) k ≡ Some t → ((get f.senders k ≡ Some t) ⊎ (is_own p k.1.addr ≡ true)) × In (sender_at n k) ls
     by None g = (inl g, among k t g)
     by (Some e) g = (inl g, among k t g)
+call_told p n (AdvertAs s x) f ls among k t h = by (call_refusal p (AdvertAs s x) f) h
+  where
+    by : (o : Option LocalErr) → get (unless o f.senders f.senders) k ≡ Some t → ((get f.senders k ≡ Some t) ⊎ (is_own p k.1.addr ≡ true)) × In (sender_at n k) ls
+    by None g = (inl g, among k t g)
+    by (Some e) g = (inl g, among k t g)
 call_told p n (QuitAll s) f ls among k t h = by (call_refusal p (QuitAll s) f) h
   where
     by : (o : Option LocalErr) → get (unless o f.senders f.senders) k ≡ Some t → ((get f.senders k ≡ Some t) ⊎ (is_own p k.1.addr ≡ true)) × In (sender_at n k) ls
@@ -181,6 +187,7 @@ call_elsewhere : (m : ℕ) (l : Local) (x : LocalSender) (ls : List LocalSender)
 call_elsewhere m (SendAs s y tspec) x ls far i = inr i
 call_elsewhere m (DropAs s y) x ls far i = to_filter (λ l. not (is_sender_at m s y l)) x ls i (not_here m s y x (λ node session sender. far node))
 call_elsewhere m (WantAs s st names flow mark) x ls far i = i
+call_elsewhere m (AdvertAs s y) x ls far i = i
 call_elsewhere m (QuitAll s) x ls far i = i
 
 -- ---- a step
@@ -206,6 +213,7 @@ a_call_or_not (ClearAt m) w n i e = let r = at_node_found m n Clear i e in inr (
 a_call_or_not (Trace on) w n i e = absurd (cc)
 a_call_or_not (Report r) w n i e = absurd (cc)
 a_call_or_not Flags w n i e = absurd (cc)
+a_call_or_not Adverts w n i e = absurd (cc)
 a_call_or_not (Inject t dst a) w n i e = absurd (cc)
 a_call_or_not (Reroute g x hops) w n i e = let same : Moved ≡ i = cc in inr (ap on_senders (sym same), λ ls. refl)
 
@@ -220,6 +228,7 @@ not_called (ClearAt m) w n x ls e node i = i
 not_called (Trace on) w n x ls e node i = i
 not_called (Report r) w n x ls e node i = i
 not_called Flags w n x ls e node i = i
+not_called Adverts w n x ls e node i = i
 not_called (Inject t dst a) w n x ls e node i = i
 not_called (Reroute g y hops) w n x ls e node i = i
 
@@ -421,6 +430,7 @@ module _ (q : ℕ) (some : 1 ≤ q) where
   calm_lets_nobody (Trace on) c = λ ls. refl
   calm_lets_nobody (Report e) c = λ ls. refl
   calm_lets_nobody Flags c = λ ls. refl
+  calm_lets_nobody Adverts c = λ ls. refl
   calm_lets_nobody (Inject e dst a) c = λ ls. refl
   calm_lets_nobody (Reroute g x hops) c = λ ls. refl
 
@@ -453,6 +463,7 @@ module _ (q : ℕ) (some : 1 ≤ q) where
   event_along (Traces on) w ls few later v named = one_along ls few (Trace on) w v (λ xs. refl) named
   event_along (Reports e) w ls few later v named = one_along ls few (Report e) w v (λ xs. refl) named
   event_along ReportsFlags w ls few later v named = one_along ls few Flags w v (λ xs. refl) named
+  event_along ReportsAdverts w ls few later v named = one_along ls few Adverts w v (λ xs. refl) named
   event_along (Injects e dst a) w ls few later v named = one_along ls few (Inject e dst a) w v (λ xs. refl) named
   event_along (Reroutes g x hops) w ls few later v named = one_along ls few (Reroute g x hops) w v (λ xs. refl) named
 

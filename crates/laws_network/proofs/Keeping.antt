@@ -27,7 +27,7 @@ use Rattle.tree_model.specs.Trees.{of_tree}
 use Rattle.tree_model.specs.Valid.{IsValid}
 use Rattle.tree_model.proofs.Ifaces.{interfaces_are_ends}
 use Rattle.network_model.specs.Bounds.{IsItem, IsProperArrival, AreBounds}
-use Rattle.network_model.specs.Steps.{Step, Piece, Deliver, Lose, Copy, At, ClearAt, Trace, Report, Flags, Inject, Reroute, is_calm, is_quiet, ms_of, net_after, rerouted, tree_hop}
+use Rattle.network_model.specs.Steps.{Step, Piece, Deliver, Lose, Copy, At, ClearAt, Trace, Report, Flags, Adverts, Inject, Reroute, is_calm, is_quiet, ms_of, net_after, rerouted, tree_hop}
 use Rattle.network_model.specs.Steps.{input_at, word_for, rest, outcome_of, outcome, facts_from, sent, step, machine}
 use Rattle.network_model.specs.Worlds.{Item, World, ifaces_at, config_of}
 use Rattle.network_model.proofs.Changing.{what_is_sent_is_copied}
@@ -52,6 +52,7 @@ net_kept part same (ClearAt n) w = refl
 net_kept part same (Trace on) w = refl
 net_kept part same (Report e) w = refl
 net_kept part same Flags w = refl
+net_kept part same Adverts w = refl
 net_kept part same (Inject e dst a) w = refl
 net_kept part same (Reroute g s hops) w = same w.net g s hops
 
@@ -71,6 +72,7 @@ valid_after q (ClearAt n) w fit v = v
 valid_after q (Trace on) w fit v = v
 valid_after q (Report e) w fit v = v
 valid_after q Flags w fit v = v
+valid_after q Adverts w fit v = v
 valid_after q (Inject e dst a) w fit v = v
 valid_after q (Reroute g s hops) w fit v = fit.1
 
@@ -85,6 +87,7 @@ routed_after q (ClearAt n) w fit v r i = v r i
 routed_after q (Trace on) w fit v r i = v r i
 routed_after q (Report e) w fit v r i = v r i
 routed_after q Flags w fit v r i = v r i
+routed_after q Adverts w fit v r i = v r i
 routed_after q (Inject e dst a) w fit v r i = v r i
 routed_after q (Reroute g s hops) w fit v r i =
     ⊎_elim
@@ -136,6 +139,7 @@ fit_input q (ClearAt m) w n i b fit e =
 fit_input q (Trace on) w n i b fit e = absurd (cc)
 fit_input q (Report r) w n i b fit e = absurd (cc)
 fit_input q Flags w n i b fit e = absurd (cc)
+fit_input q Adverts w n i b fit e = absurd (cc)
 fit_input q (Inject t dst a) w n i b fit e = absurd (cc)
 fit_input q (Reroute g s hops) w n i b fit e =
     let same : Moved ≡ i = cc in
@@ -152,6 +156,7 @@ still_world (ClearAt m) w n e = (refl, refl)
 still_world (Trace on) w n e = (refl, refl)
 still_world (Report r) w n e = (refl, refl)
 still_world Flags w n e = (refl, refl)
+still_world Adverts w n e = (refl, refl)
 still_world (Inject t dst a) w n e = (refl, refl)
 still_world (Reroute g s hops) w n e = absurd (cc)
 
@@ -190,6 +195,7 @@ module _ (q : ℕ) (s : Step) (w : World) (bounds : AreBounds q w) (fit : IsFitS
       by (Trace on) g j = inl j
       by (Report e) g j = inl j
       by Flags g j = inl j
+      by Adverts g j = inl j
       by (Inject e dst a) g j =
           ⊎_elim (λ (h : In x w.flight). inl h)
           (λ (h : In x ((record { end = e; dst = dst; arrival = a; born = w.made }) ∷ [])).
@@ -267,6 +273,7 @@ calm_fit q (ClearAt n) w c = tt
 calm_fit q (Trace on) w c = tt
 calm_fit q (Report e) w c = tt
 calm_fit q Flags w c = tt
+calm_fit q Adverts w c = tt
 calm_fit q (Inject e dst a) w c = let no : is_quiet (Inject e dst a) ≡ true = quiet_of q (Inject e dst a) c in absurd (cc)
 calm_fit q (Reroute g s hops) w c = let no : is_quiet (Reroute g s hops) ≡ true = quiet_of q (Reroute g s hops) c in absurd (cc)
 

@@ -20,7 +20,7 @@ use Rattle.rsvp_base.proofs.Fronts.{got_in}
 use Rattle.network_model.proofs.Machines.{quiet_of}
 use Rattle.network_model.proofs.Quiet.{IsCame, FollowsRule, input_came, net_quiet, outcome_quiet}
 use Rattle.network_model.proofs.Stepping.{facts_after_found, facts_after_made}
-use Rattle.laws_network.specs.Known.{IsSameNet, IsKnown}
+use Rattle.laws_network.specs.Known.{IsKnown, IsSameNet, advertised_at}
 use Rattle.laws_network.proofs.Locals.{calm_input, locals_kept}
 use Rattle.laws_network.proofs.Standing.{same_end, some_at}
 use Rattle.network_model.specs.RouterRules.Steps.{node_step}
@@ -49,22 +49,41 @@ module _ (q : ℕ) (s : Step) (u : World) (quiet : is_quiet s ≡ true) (bounds 
       (calm_input s u n h.input quiet h.came))
       (outcome_quiet q s u n f quiet)
 
-  pub senders_kept : (n : ℕ) → senders_at (step q s u) n ≡ senders_at u n
-  senders_kept n = by (slice_get u.nodes n) refl
+  advertised_outcome : (n : ℕ) (f : Facts) → slice_get u.nodes n ≡ Some f → (outcome q s u n f).facts.advertised ≡ f.advertised
+  advertised_outcome n f a =
+      ⊎_elim
+      (λ (h : (input_at s u n ≡ None) × (outcome q s u n f ≡ still f)). ap (λ (o : Outcome). o.facts.advertised) h.1)
+      (λ (h : FollowsRule q s u n f (outcome q s u n f)).
+      ap (λ (o : Outcome). o.facts.advertised) h.is
+      ∙ calm_steps_keep_the_locals.advertised (node_step (config_of q u.net u.trees n) (config_of q u.net u.trees n) u.clock (u.clock + ms_of s) h.input f) (bounds.facts n f a)
+      (calm_input s u n h.input quiet h.came))
+      (outcome_quiet q s u n f quiet)
+
+  -- what a node keeps that its rule leaves as it is
+  at_nodes_kept : {A : Type 0} (part : Facts → A) → ((n : ℕ) (f : Facts) → slice_get u.nodes n ≡ Some f → part (outcome q s u n f).facts ≡ part f)
+      → (n : ℕ) → option_map part (slice_get (step q s u).nodes n) ≡ option_map part (slice_get u.nodes n)
+  at_nodes_kept {A} part same n = by (slice_get u.nodes n) refl
     where
-      none : (o : Option Facts) → slice_get (step q s u).nodes n ≡ o → slice_get u.nodes n ≡ None → option_map (λ (f : Facts). f.senders) o ≡ None
+      none : (o : Option Facts) → slice_get (step q s u).nodes n ≡ o → slice_get u.nodes n ≡ None → option_map part o ≡ None
       none None t a = refl
       none (Some g) t a = let r = facts_after_found q s u n g t in let no : Some r.0 ≡ None = sym r.1 ∙ a in absurd (cc)
 
-      by : (o : Option Facts) → slice_get u.nodes n ≡ o → option_map (λ (f : Facts). f.senders) (slice_get (step q s u).nodes n) ≡ option_map (λ (f : Facts). f.senders) o
+      by : (o : Option Facts) → slice_get u.nodes n ≡ o → option_map part (slice_get (step q s u).nodes n) ≡ option_map part o
       by None a = none (slice_get (step q s u).nodes n) refl a
-      by (Some f) a = ap (option_map (λ (g : Facts). g.senders)) (facts_after_made q s u n f a) ∙ ap Some (senders_outcome n f a)
+      by (Some f) a = ap (option_map part) (facts_after_made q s u n f a) ∙ ap Some (same n f a)
+
+  pub senders_kept : (n : ℕ) → senders_at (step q s u) n ≡ senders_at u n
+  senders_kept n = at_nodes_kept (λ (f : Facts). f.senders) senders_outcome n
+
+  pub advertised_kept : (n : ℕ) → advertised_at (step q s u) n ≡ advertised_at u n
+  advertised_kept n = at_nodes_kept (λ (f : Facts). f.advertised) advertised_outcome n
 
   pub same_kept : (w : World) → IsSameNet w u → IsSameNet w (step q s u)
   same_kept w same = record {
     net = net_quiet s u quiet ∙ same.net;
     trees = same.trees;
     senders = λ n. senders_kept n ∙ same.senders n;
+    advertised = λ n. advertised_kept n ∙ same.advertised n;
     locals = locals_kept q s u quiet bounds ∙ same.locals;
   }
 
@@ -74,7 +93,7 @@ known_hold q w rs calm bounds =
     hold_map (machine q) (λ u. AreBounds q u × IsSameNet w u) (IsKnown q w) (λ u h. record { bounds = h.0; same = h.1 }) 0 rs w
     (hold_both (machine q) (AreBounds q) (IsSameNet w) 0 rs w bounds
     (hold_keep (machine q) (AreBounds q) (IsSameNet w) (λ s u quiet b b' same. same_kept q s u (quiet_of q s quiet) b w same) rs w calm bounds
-    (record { net = refl; trees = refl; senders = λ n. refl; locals = refl })))
+    (record { net = refl; trees = refl; senders = λ n. refl; advertised = λ n. refl; locals = refl })))
 
 -- ---- the node of an end is there
 pub node_there : (q : ℕ) (o : World) → IsValid o.net → (u : World) (e : ℕ) → IsKnown q o u → e < length o.net.ends → (f : Facts) × (slice_get u.nodes (node_of o.net.ends e) ≡ Some f)

@@ -11,10 +11,10 @@ use Rattle.tree_model.specs.Networks.{Net}
 use Rattle.tree_model.specs.Trees.{trees_of}
 use Rattle.tree_model.specs.Valid.{IsValid}
 use Rattle.network_model.specs.Bounds.{AreBounds}
-use Rattle.network_model.specs.Events.{Event, AtNode, Waits, Pass, DeliverAt, LoseAt, CopyAt, ClearNode, Rounds, Traces, Reports, ReportsFlags, Injects, Reroutes, at_place, last_piece}
+use Rattle.network_model.specs.Events.{Event, AtNode, Waits, Pass, DeliverAt, LoseAt, CopyAt, ClearNode, Rounds, Traces, Reports, ReportsFlags, ReportsAdverts, Injects, Reroutes, at_place, last_piece}
 use Rattle.network_model.specs.Events.{pieces, pass, passes, half, halves, a_round, rounds, steps_of, all_steps}
 use Rattle.network_model.specs.Runs.{Plan, first_world, steps_of_run}
-use Rattle.network_model.specs.Steps.{Step, Piece, Deliver, Lose, Copy, At, ClearAt, Trace, Report, Flags, Inject, Reroute, is_calm, net_after, rerouted, step, machine}
+use Rattle.network_model.specs.Steps.{Step, Piece, Deliver, Lose, Copy, At, ClearAt, Trace, Report, Flags, Adverts, Inject, Reroute, is_calm, net_after, rerouted, step, machine}
 use Rattle.network_model.specs.Worlds.{World}
 use Rattle.network_model.proofs.Machines.{quiet_of}
 use Rattle.network_model.proofs.Quiet.{net_quiet}
@@ -134,6 +134,7 @@ module _ (q : ℕ) (some : 1 ≤ q) where
     event net (Traces on) w fit i = calm_event net (Trace on ∷ []) w (one_calm (Trace on) no_time) i
     event net (Reports e) w fit i = calm_event net (Report e ∷ []) w (one_calm (Report e) no_time) i
     event net ReportsFlags w fit i = calm_event net (Flags ∷ []) w (one_calm Flags no_time) i
+    event net ReportsAdverts w fit i = calm_event net (Adverts ∷ []) w (one_calm Adverts no_time) i
     event net (Injects e dst a) w fit i = one_event net (Inject e dst a) w (λ u j. ((subst (λ (z : Net). e < length z.ends) (sym j.net_is) fit.0, fit.1), refl)) i
     event net (Reroutes g s hops) w fit i =
         let step_fit : IsFitStep q w (Reroute g s hops) = (

@@ -9,14 +9,14 @@ use Rattle.rsvp_base.specs.Members.{In}
 use Rattle.rsvp_base.specs.Orders.{senders, sessions}
 use Rattle.rsvp_base.specs.Sets.{set_of}
 use Rattle.rsvp_base.specs.Table.{size}
-use Rattle.network_model.specs.RouterRules.Inputs.{Local, SendAs, DropAs, WantAs, QuitAll}
+use Rattle.network_model.specs.RouterRules.Inputs.{Local, SendAs, DropAs, AdvertAs, WantAs, QuitAll}
 use Rattle.tree_model.specs.declared.locals.LocalSender.{LocalSender}
 use Rattle.tree_model.specs.Networks.{Net}
 use Rattle.tree_model.specs.Trees.{trees_of}
 use Rattle.tree_model.specs.Valid.{IsValid}
 use Rattle.tree_model.specs.Wants.{live}
 use Rattle.network_model.specs.Bounds.{IsProperArrival}
-use Rattle.network_model.specs.Events.{Event, AtNode, Waits, Pass, DeliverAt, LoseAt, CopyAt, ClearNode, Rounds, Traces, Reports, ReportsFlags, Injects, Reroutes}
+use Rattle.network_model.specs.Events.{Event, AtNode, Waits, Pass, DeliverAt, LoseAt, CopyAt, ClearNode, Rounds, Traces, Reports, ReportsFlags, Injects, Reroutes, ReportsAdverts}
 use Rattle.network_model.specs.Links.{is_group}
 use Rattle.network_model.specs.Runs.{Plan}
 use Rattle.network_model.specs.Steps.{rerouted}
@@ -42,6 +42,7 @@ IsFitEvent trees net (Rounds n) = Unit {0}
 IsFitEvent trees net (Traces on) = Unit {0}
 IsFitEvent trees net (Reports e) = Unit {0}
 IsFitEvent trees net ReportsFlags = Unit {0}
+IsFitEvent trees net ReportsAdverts = Unit {0}
 IsFitEvent trees net (Injects e dst a) = (e < length net.ends) × IsProperArrival a
 IsFitEvent trees net (Reroutes g s hops) = In (g, s) trees × IsValid (rerouted net g s hops)
 
@@ -61,6 +62,7 @@ is_sender_at n s x l = (l.node == n) && (eq_by_cmp sessions.cmp s l.session && e
 abbrev pub sending_by_call : ℕ → Local → List LocalSender → List LocalSender
 sending_by_call n (SendAs s x tspec) ls = (record { node = n; session = s; sender = x }) ∷ ls
 sending_by_call n (DropAs s x) ls = filter (λ l. not (is_sender_at n s x l)) ls
+sending_by_call n (AdvertAs s x) ls = ls
 sending_by_call n (WantAs s st names flow mark) ls = ls
 sending_by_call n (QuitAll s) ls = ls
 

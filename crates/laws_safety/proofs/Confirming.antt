@@ -55,7 +55,8 @@ use Rattle.tree_model.specs.Networks.{iface_of}
 use Rattle.tree_model.proofs.Following.{number_same}
 use Rattle.network_model.specs.Bounds.{AreBounds, IsProperArrival}
 use Rattle.network_model.specs.Runs.{first_world}
-use Rattle.network_model.specs.Steps.{At, ClearAt, Copy, Deliver, Flags, Inject, Lose, Piece, Report, Reroute, Step, Trace, input_at, machine, ms_of, net_after, outcome, outcome_of, rest, sent, step}
+use Rattle.network_model.specs.Steps.{At, ClearAt, Copy, Deliver, Flags, Adverts, Inject, Lose, Piece, Report, Reroute, Step, Trace, input_at}
+use Rattle.network_model.specs.Steps.{machine, ms_of, net_after, outcome, outcome_of, rest, sent, step}
 use Rattle.network_model.specs.Worlds.{Item, World, config_of}
 use Rattle.network_model.proofs.Changing.{what_is_sent_is_copied}
 use Rattle.network_model.proofs.Listing.{in_remove}
@@ -435,6 +436,7 @@ injects (ClearAt n) w x m i says = inl i
 injects (Trace b) w x m i says = inl i
 injects (Report e) w x m i says = inl i
 injects Flags w x m i says = inl i
+injects Adverts w x m i says = inl i
 injects (Reroute g s hops) w x m i says = inl i
 
 module _ (q : ℕ) (m : ResvConfMsg) where

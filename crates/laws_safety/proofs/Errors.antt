@@ -43,7 +43,7 @@ use Rattle.router_rules.specs.Steps.{facts_then, node_step}
 use Rattle.tree_model.specs.declared.hops.End.{End}
 use Rattle.tree_model.specs.Networks.{iface_of}
 use Rattle.network_model.specs.Bounds.{AreBounds}
-use Rattle.network_model.specs.Steps.{ClearAt, Deliver, Piece, Lose, Copy, At, Trace, Report, Flags, Inject, Reroute, Step, arrived, input_at, is_quiet, ms_of, net_after, outcome}
+use Rattle.network_model.specs.Steps.{ClearAt, Deliver, Piece, Lose, Copy, At, Trace, Report, Flags, Adverts, Inject, Reroute, Step, arrived, input_at, is_quiet, ms_of, net_after, outcome}
 use Rattle.network_model.specs.Steps.{outcome_of, sent, step}
 use Rattle.network_model.specs.Worlds.{Item, World, config_of}
 use Rattle.network_model.proofs.Quiet.{IsCame, IsWaited, at_node_found, input_came, input_found, outcome_by}
@@ -171,6 +171,7 @@ cleared_by (ClearAt m) w n e = ap ClearAt (at_node_found m n Clear Clear e).0
 cleared_by (Trace on) w n e = absurd (cc)
 cleared_by (Report r) w n e = absurd (cc)
 cleared_by Flags w n e = absurd (cc)
+cleared_by Adverts w n e = absurd (cc)
 cleared_by (Inject t dst a) w n e = absurd (cc)
 cleared_by (Reroute g x hops) w n e = absurd (cc)
 
@@ -189,6 +190,7 @@ came_by (ClearAt m) w n e dst a is = let r = at_node_found m n Clear (Came e dst
 came_by (Trace on) w n e dst a is = absurd (cc)
 came_by (Report r) w n e dst a is = absurd (cc)
 came_by Flags w n e dst a is = absurd (cc)
+came_by Adverts w n e dst a is = absurd (cc)
 came_by (Inject t d x) w n e dst a is = absurd (cc)
 came_by (Reroute g x hops) w n e dst a is = absurd (cc)
 

@@ -15,12 +15,14 @@ use Rattle.tree_model.specs.Ranks.{followers}
 use Rattle.tree_model.specs.Valid.{IsValid}
 use Rattle.laws_network.proofs.Standing.{place_in}
 use Rattle.tree_routing.specs.Answers.{no_net, rising, with_end, with_hop, with_link, with_node}
+use Rattle.tree_routing.proofs.Latencies.{latency_length, valid_latency}
 use Rattle.tree_routing.proofs.LinkLaws.{rising_length}
 use Rattle.tree_routing.proofs.ValidMore.{valid_end, valid_hop, valid_link, valid_node}
 use Rattle.network_model.specs.Runs.{Plan}
-use Rattle.script_grammar.specs.Adds.{Adds, link_value}
+use Rattle.script_grammar.specs.Adds.{Adds, link_value, with_latency_line}
 use Rattle.script_grammar.specs.declared.line.EndLine.{EndLine}
 use Rattle.script_grammar.specs.declared.line.HopLine.{HopLine}
+use Rattle.script_grammar.specs.declared.line.LatencyLine.{LatencyLine}
 use Rattle.script_grammar.specs.declared.line.ScriptLine.{ScriptLine}
 use Rattle.script_grammar.specs.declared.line.ScriptLine.TheVariants as line
 use Rattle.script_grammar.specs.Draft.{Draft, end_number, node_number, nothing, place_of}
@@ -94,6 +96,13 @@ end_line d l h rules =
           (record { node = subst (λ (z : ℕ). node_number d l.node < z) h.nodes inside; room = rules.within_limits; address = rules.new.addr });
     }
 
+latency_line : (d : Draft) (l : LatencyLine) → Declared d → Declared (with_latency_line d l)
+latency_line d l h = record {
+  nodes = h.nodes;
+  names = h.names ∙ sym (latency_length d.net.ends (end_number d l.end) l.latency);
+  valid = λ fit. valid_latency d.net (end_number d l.end) l.latency (h.valid (λ x i. fit x i));
+}
+
 link_line : (d : Draft) (names : List (List ℕ)) → Declared d → KeepsAll (Keeps d (line.Link names)) → Declared (record d { net = with_link d.net (link_value d names) })
 link_line d names h rules = record {
   nodes = h.nodes;
@@ -131,6 +140,7 @@ hop_line d l h rules new net nodes names = record {
 pub declared_line : (d : Draft) (said : ScriptLine) (new : Draft) → Declared d → KeepsAll (Keeps d said) → Adds d said new → Declared new
 declared_line d (line.Node name) new h rules adds = subst Declared (sym adds) (node_line d name h rules)
 declared_line d (line.End l) new h rules adds = subst Declared (sym adds) (end_line d l h rules)
+declared_line d (line.Latency l) new h rules adds = subst Declared (sym adds) (latency_line d l h)
 declared_line d (line.Link names) new h rules adds = subst Declared (sym adds) (link_line d names h rules)
 declared_line d (line.Hop l) new h rules adds = hop_line d l h rules new (ap (λ (z : Draft). z.net) adds) (ap (λ (z : Draft). z.nodes) adds) (ap (λ (z : Draft). z.names) adds)
 declared_line d line.Skipped new h rules adds = same d new h (ap (λ (z : Draft). z.net) adds) (ap (λ (z : Draft). z.nodes) adds) (ap (λ (z : Draft). z.names) adds)
@@ -142,6 +152,7 @@ declared_line d (line.StaleHopWall l) new h rules adds = same d new h (ap (λ (z
 declared_line d (line.StaleSenderWall l) new h rules adds = same d new h (ap (λ (z : Draft). z.net) adds) (ap (λ (z : Draft). z.nodes) adds) (ap (λ (z : Draft). z.names) adds)
 declared_line d (line.Send l) new h rules adds = same d new h (ap (λ (z : Draft). z.net) adds) (ap (λ (z : Draft). z.nodes) adds) (ap (λ (z : Draft). z.names) adds)
 declared_line d (line.Drop l) new h rules adds = same d new h (ap (λ (z : Draft). z.net) adds) (ap (λ (z : Draft). z.nodes) adds) (ap (λ (z : Draft). z.names) adds)
+declared_line d (line.Advert l) new h rules adds = same d new h (ap (λ (z : Draft). z.net) adds) (ap (λ (z : Draft). z.nodes) adds) (ap (λ (z : Draft). z.names) adds)
 declared_line d (line.Want l) new h rules adds = same d new h (ap (λ (z : Draft). z.net) adds) (ap (λ (z : Draft). z.nodes) adds) (ap (λ (z : Draft). z.names) adds)
 declared_line d (line.Quit l) new h rules adds = same d new h (ap (λ (z : Draft). z.net) adds) (ap (λ (z : Draft). z.nodes) adds) (ap (λ (z : Draft). z.names) adds)
 declared_line d (line.Wait ms) new h rules adds = same d new h (ap (λ (z : Draft). z.net) adds) (ap (λ (z : Draft). z.nodes) adds) (ap (λ (z : Draft). z.names) adds)
@@ -155,6 +166,7 @@ declared_line d (line.Trace on) new h rules adds = same d new h (ap (λ (z : Dra
 declared_line d line.Report new h rules adds = same d new h (ap (λ (z : Draft). z.net) adds) (ap (λ (z : Draft). z.nodes) adds) (ap (λ (z : Draft). z.names) adds)
 declared_line d (line.ReportEnd end) new h rules adds = same d new h (ap (λ (z : Draft). z.net) adds) (ap (λ (z : Draft). z.nodes) adds) (ap (λ (z : Draft). z.names) adds)
 declared_line d line.Flags new h rules adds = same d new h (ap (λ (z : Draft). z.net) adds) (ap (λ (z : Draft). z.nodes) adds) (ap (λ (z : Draft). z.names) adds)
+declared_line d line.Adverts new h rules adds = same d new h (ap (λ (z : Draft). z.net) adds) (ap (λ (z : Draft). z.nodes) adds) (ap (λ (z : Draft). z.names) adds)
 declared_line d (line.Inject l) new h rules adds = same d new h (ap (λ (z : Draft). z.net) adds.2) (ap (λ (z : Draft). z.nodes) adds.2) (ap (λ (z : Draft). z.names) adds.2)
 declared_line d (line.Reroute l) new h rules adds = same d new h (ap (λ (z : Draft). z.net) adds) (ap (λ (z : Draft). z.nodes) adds) (ap (λ (z : Draft). z.names) adds)
 

@@ -26,7 +26,7 @@ use Rattle.tree_model.specs.Valid.{IsValid}
 use Rattle.tree_model.proofs.Following.{addr_same}
 use Rattle.tree_routing.proofs.Carried.{Same, grown_over}
 use Rattle.network_model.specs.Bounds.{IsProperArrival}
-use Rattle.network_model.specs.Events.{AtNode, ClearNode, CopyAt, DeliverAt, Event, Injects, LoseAt, Pass, Reports, ReportsFlags, Reroutes, Rounds, Traces, Waits}
+use Rattle.network_model.specs.Events.{AtNode, ClearNode, CopyAt, DeliverAt, Event, Injects, LoseAt, Pass, Reports, ReportsFlags, ReportsAdverts, Reroutes, Rounds, Traces, Waits}
 use Rattle.laws_network.specs.Runs.{AreFitEvents, IsFitEvent, IsFitRun, net_then}
 use Rattle.laws_network.proofs.Known.{has_some}
 use Rattle.script_grammar.specs.Adds.{Adds, IsArrival, net_rerouted}
@@ -36,7 +36,7 @@ use Rattle.script_grammar.specs.declared.line.RerouteLine.{RerouteLine}
 use Rattle.script_grammar.specs.Draft.{Draft, end_number, node_number, nothing, routing, with_hops}
 use Rattle.script_grammar.specs.Grammar.{Leads}
 use Rattle.script_grammar.specs.Rules.{Keeps, KeepsAll, sender_list}
-use Rattle.script_grammar.specs.Values.{drop_value, hop_values, send_value, senders_value, want_value}
+use Rattle.script_grammar.specs.Values.{advert_value, drop_value, hop_values, send_value, senders_value, want_value}
 use Rattle.laws_scripts.specs.Scripts.{EachScriptIsAFitRun, FirstLinesAreAFitRun}
 use Rattle.laws_scripts.proofs.DeclaredLines.{Declared, declared_first, declared_line, place_inside}
 use Rattle.laws_scripts.proofs.FitLinks.{FitLinks, fit_links_first, fit_links_line, fit_links}
@@ -140,6 +140,8 @@ goes_line d (line.Node name) new f valid form h rules adds = declared d new rule
     (ap (λ (z : Draft). z.force) adds ∙ h.none rules.in_time.no_event ∙ sym (ap (λ (z : Draft). z.net.hops) adds)) valid
 goes_line d (line.End l) new f valid form h rules adds = declared d new rules.in_time.no_event (ap (λ (z : Draft). z.events) adds)
     (ap (λ (z : Draft). z.force) adds ∙ h.none rules.in_time.no_event ∙ sym (ap (λ (z : Draft). z.net.hops) adds)) valid
+goes_line d (line.Latency l) new f valid form h rules adds = declared d new rules.in_time.no_event (ap (λ (z : Draft). z.events) adds)
+    (ap (λ (z : Draft). z.force) adds ∙ h.none rules.in_time.no_event ∙ sym (ap (λ (z : Draft). z.net.hops) adds)) valid
 goes_line d (line.Link names) new f valid form h rules adds = declared d new rules.in_time.no_event (ap (λ (z : Draft). z.events) adds)
     (ap (λ (z : Draft). z.force) adds ∙ h.none rules.in_time.no_event ∙ sym (ap (λ (z : Draft). z.net.hops) adds)) valid
 goes_line d (line.Hop l) new f valid form h rules adds =
@@ -149,6 +151,7 @@ goes_line d (line.Hop l) new f valid form h rules adds =
     (h.none rules.in_time.no_event) ∙ sym (ap (λ (z : Draft). z.net.hops) adds)) valid
 goes_line d (line.Send l) new f valid form h rules adds = subst Goes (sym adds) (passed d h (AtNode (node_number d l.node) (send_value l)) (sound l.flow rules.in_range.flow) refl)
 goes_line d (line.Drop l) new f valid form h rules adds = subst Goes (sym adds) (passed d h (AtNode (node_number d l.node) (drop_value l)) tt refl)
+goes_line d (line.Advert l) new f valid form h rules adds = subst Goes (sym adds) (passed d h (AtNode (node_number d l.node) (advert_value l)) tt refl)
 goes_line d (line.Want l) new f valid form h rules adds =
     subst Goes (sym adds) (passed d h (AtNode (node_number d l.node) (want_value l)) (fit_list d h l.style l.senders form rules.within_limits.few_senders, sound l.flow rules.in_range.flow) refl)
 goes_line d (line.Quit l) new f valid form h rules adds = subst Goes (sym adds) (passed d h (AtNode (node_number d l.node) (QuitAll (session_value l.session))) tt refl)
@@ -163,6 +166,7 @@ goes_line d (line.Trace on) new f valid form h rules adds = subst Goes (sym adds
 goes_line d line.Report new f valid form h rules adds = subst Goes (sym adds) (passed d h (Reports None) tt refl)
 goes_line d (line.ReportEnd end) new f valid form h rules adds = subst Goes (sym adds) (passed d h (Reports (Some (end_number d end))) tt refl)
 goes_line d line.Flags new f valid form h rules adds = subst Goes (sym adds) (passed d h ReportsFlags tt refl)
+goes_line d line.Adverts new f valid form h rules adds = subst Goes (sym adds) (passed d h ReportsAdverts tt refl)
 goes_line d (line.Inject l) new f valid form h rules adds =
     let there : end_number d l.end < length d.net.ends = subst (λ (z : ℕ). end_number d l.end < z) f.names (place_inside d.names l.end rules.known) in
     subst Goes (sym adds.2) (passed d h (Injects (end_number d l.end) (addr_value l.dst) adds.0) (there, proper d h l.bytes adds.0 form adds.1) refl)

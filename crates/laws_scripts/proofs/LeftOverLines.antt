@@ -27,6 +27,7 @@ use Rattle.tree_model.specs.Networks.{Net, end_at, iface_of, node_of}
 use Rattle.tree_model.specs.Trees.{trees_of}
 use Rattle.tree_model.proofs.Following.{same_number}
 use Rattle.tree_model.proofs.Ifaces.{interfaces_are_ends}
+use Rattle.tree_routing.proofs.Latencies.{latency_length}
 use Rattle.network_model.specs.Worlds.{config_of}
 use Rattle.laws_network.specs.Beginning.{IsFitPlan}
 use Rattle.laws_network.proofs.Standing.{iface_less}
@@ -204,6 +205,8 @@ fitting_line d (line.End l) new h form rules adds =
     (ap (λ (z : Draft). length z.names) adds ∙ lengths ∙ sym (ap (λ (z : Draft). length z.net.ends) adds))
 fitting_line d (line.Node name) new h form rules adds = declared d new h rules.in_time.no_fact (ap (λ (z : Draft). z.stale) adds) (ap (λ (z : Draft). z.period) adds)
     (same_names d new h (ap (λ (z : Draft). z.names) adds) (ap (λ (z : Draft). z.net.ends) adds))
+fitting_line d (line.Latency l) new h form rules adds = declared d new h rules.in_time.no_fact (ap (λ (z : Draft). z.stale) adds) (ap (λ (z : Draft). z.period) adds)
+    (ap (λ (z : Draft). length z.names) adds ∙ h.names ∙ sym (latency_length d.net.ends (end_number d l.end) l.latency) ∙ sym (ap (λ (z : Draft). length z.net.ends) adds))
 fitting_line d (line.Link names) new h form rules adds = declared d new h rules.in_time.no_fact (ap (λ (z : Draft). z.stale) adds) (ap (λ (z : Draft). z.period) adds)
     (same_names d new h (ap (λ (z : Draft). z.names) adds) (ap (λ (z : Draft). z.net.ends) adds))
 fitting_line d (line.Hop l) new h form rules adds = declared d new h rules.in_time.no_fact (ap (λ (z : Draft). z.stale) adds) (ap (λ (z : Draft). z.period) adds)

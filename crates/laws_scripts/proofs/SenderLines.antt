@@ -21,7 +21,7 @@ use Rattle.tree_model.specs.declared.locals.LocalWant.{LocalWant}
 use Rattle.tree_model.specs.Networks.{owner}
 use Rattle.tree_model.specs.Wants.{Locals, live, of_session}
 use Rattle.tree_model.proofs.Following.{number_same, same_number}
-use Rattle.network_model.specs.Events.{AtNode, ClearNode, CopyAt, DeliverAt, Injects, LoseAt, Pass, Reports, ReportsFlags, Reroutes, Rounds, Traces, Waits}
+use Rattle.network_model.specs.Events.{AtNode, ClearNode, CopyAt, DeliverAt, Injects, LoseAt, Pass, Reports, ReportsFlags, ReportsAdverts, Reroutes, Rounds, Traces, Waits}
 use Rattle.network_model.specs.Links.{is_group}
 use Rattle.laws_network.specs.Runs.{AreFitSenders, is_sender_at}
 use Rattle.laws_network.proofs.Known.{of_some}
@@ -36,7 +36,7 @@ use Rattle.script_grammar.specs.declared.line.WantLine.{WantLine}
 use Rattle.script_grammar.specs.Draft.{Draft, end_number, node_number, nothing, same_session, with_session}
 use Rattle.script_grammar.specs.Grammar.{Leads}
 use Rattle.script_grammar.specs.Rules.{Keeps, KeepsAll}
-use Rattle.script_grammar.specs.Values.{drop_value, hop_values, send_value, senders_value, want_value}
+use Rattle.script_grammar.specs.Values.{advert_value, drop_value, hop_values, send_value, senders_value, want_value}
 use Rattle.laws_scripts.specs.Scripts.{EachScriptLetsFewSend, FirstLinesLetFewSend}
 use Rattle.laws_scripts.proofs.Leading.{led}
 use Rattle.laws_scripts.proofs.Wants.{new_want, of_line, wants_same}
@@ -213,6 +213,25 @@ module _ (d : Draft) (h : Sending d) where
           few_sessions = subst (λ (z : List Session). length z ≤ 32) (sym (not_again d.sessions of session_in)) h.few_sessions;
         })
 
+  -- a sender that is advertised sends, so its session was named
+  pub advertised : (l : DropLine) → KeepsAll (Keeps d (line.Advert l)) → Sending (with_local d l.node (session_value l.session) (advert_value l) d.locals)
+  advertised l rules =
+      let s : Session = session_value l.session in
+      let one = in_any (is_sender_at (node_number d l.node) s (sender_value l.sender)) d.locals.senders rules.known.sends in
+      let r = and_both (one.0.node == node_number d l.node) (is_sender s (sender_value l.sender) one.0) one.2 in
+      let told = sender_told s (sender_value l.sender) one.0 r.1 in
+      let in_sessions : In s d.sessions = subst (λ (z : Session). In z d.sessions) told.0 (h.named one.0 one.1) in
+      happened d (AtNode (node_number d l.node) (advert_value l)) d.locals (with_session d.sessions s) d.force h
+      (record {
+        those = h.those;
+        placed = h.placed;
+        groups = h.groups;
+        few_senders = h.few_senders;
+        named = λ y i. still_in d.sessions s y.session (h.named y i);
+        wanted = λ w i. still_in d.sessions s w.session (h.wanted w i);
+        few_sessions = subst (λ (z : List Session). length z ≤ 32) (sym (not_again d.sessions s in_sessions)) h.few_sessions;
+      })
+
   -- ---- wants
   pub wanting : (l : WantLine) → KeepsAll (Keeps d (line.Want l)) → Sending (with_local d l.node (session_value l.session) (want_value l)
       (record d.locals { wants = with_wants d.locals.wants (wants_value d l) }))
@@ -265,6 +284,7 @@ by_line d (line.Period ms) next h rules adds = subst Sending (sym adds) (declare
 by_line d (line.Seed n) next h rules adds = subst Sending (sym adds) (declared d (record d { seed = Some n }) h rules.in_time.no_event refl refl refl)
 by_line d (line.Node name) next h rules adds = declared d next h rules.in_time.no_event (ap (λ (z : Draft). z.events) adds) (ap (λ (z : Draft). z.locals) adds) (ap (λ (z : Draft). z.sessions) adds)
 by_line d (line.End l) next h rules adds = declared d next h rules.in_time.no_event (ap (λ (z : Draft). z.events) adds) (ap (λ (z : Draft). z.locals) adds) (ap (λ (z : Draft). z.sessions) adds)
+by_line d (line.Latency l) next h rules adds = declared d next h rules.in_time.no_event (ap (λ (z : Draft). z.events) adds) (ap (λ (z : Draft). z.locals) adds) (ap (λ (z : Draft). z.sessions) adds)
 by_line d (line.Link names) next h rules adds = declared d next h rules.in_time.no_event (ap (λ (z : Draft). z.events) adds) (ap (λ (z : Draft). z.locals) adds) (ap (λ (z : Draft). z.sessions) adds)
 by_line d (line.Hop l) next h rules adds = declared d next h rules.in_time.no_event (ap (λ (z : Draft). z.events) adds) (ap (λ (z : Draft). z.locals) adds) (ap (λ (z : Draft). z.sessions) adds)
 by_line d (line.StalePath l) next h rules adds = left_over d next (session_value l.session) h rules.within_limits.session (ap (λ (z : Draft). z.events) adds) (ap (λ (z : Draft). z.locals) adds)
@@ -277,6 +297,7 @@ by_line d (line.StaleSenderWall l) next h rules adds = left_over d next (session
     (ap (λ (z : Draft). z.net) adds) (ap (λ (z : Draft). z.sessions) adds)
 by_line d (line.Send l) next h rules adds = subst Sending (sym adds) (sent d h l rules)
 by_line d (line.Drop l) next h rules adds = subst Sending (sym adds) (dropped d h l rules)
+by_line d (line.Advert l) next h rules adds = subst Sending (sym adds) (advertised d h l rules)
 by_line d (line.Want l) next h rules adds = subst Sending (sym adds) (wanting d h l rules)
 by_line d (line.Quit l) next h rules adds = subst Sending (sym adds) (quitting d h l rules)
 by_line d (line.Wait ms) next h rules adds = subst Sending (sym adds) (passed d (Waits ms) d.force (λ ls. refl) h)
@@ -290,6 +311,7 @@ by_line d (line.Trace on) next h rules adds = subst Sending (sym adds) (passed d
 by_line d line.Report next h rules adds = subst Sending (sym adds) (passed d (Reports None) d.force (λ ls. refl) h)
 by_line d (line.ReportEnd end) next h rules adds = subst Sending (sym adds) (passed d (Reports (Some (end_number d end))) d.force (λ ls. refl) h)
 by_line d line.Flags next h rules adds = subst Sending (sym adds) (passed d ReportsFlags d.force (λ ls. refl) h)
+by_line d line.Adverts next h rules adds = subst Sending (sym adds) (passed d ReportsAdverts d.force (λ ls. refl) h)
 by_line d (line.Inject l) next h rules adds = subst Sending (sym adds.2) (passed d (Injects (end_number d l.end) (addr_value l.dst) adds.0) d.force (λ ls. refl) h)
 by_line d (line.Reroute l) next h rules adds = subst Sending (sym adds) (passed d (Reroutes (addr_value l.group) (addr_value l.source) (hop_values d l)) (net_rerouted d l).hops (λ ls. refl) h)
 

@@ -24,8 +24,10 @@ use Rattle.script_words.specs.Sessions.{session_of, sender_of, senders_of}
 use Rattle.script_words.specs.Styles.{style_of}
 use Rattle.script_words.specs.Flows.{flow_of}
 use Rattle.script_words.proofs.PartLemmas.{some_parts}
-use Rattle.script_grammar.specs.LineKinds.{Kinds, as_wild, at_nodes, by_first, bytes_of, clear_line, declared, drop_line, end_line, flags_line, hop_line, hop_wall, in_flight, inject_line}
-use Rattle.script_grammar.specs.LineKinds.{is_comment, left_over, script_line_of, link_line, lone_number, node_line, numbered, others, pairs_of, pass_line, path_of, period_line, quit_line}
+use Rattle.script_grammar.specs.LineKinds.{Kinds, advert_line, adverts_line, as_wild, at_nodes, by_first, bytes_of, clear_line, declared, drop_line}
+use Rattle.script_grammar.specs.LineKinds.{end_line, flags_line, hop_line, hop_wall, in_flight, inject_line}
+use Rattle.script_grammar.specs.LineKinds.{is_comment, latency_line, left_over, script_line_of, link_line, lone_number, node_line, numbered, others}
+use Rattle.script_grammar.specs.LineKinds.{pairs_of, pass_line, path_of, period_line, quit_line}
 use Rattle.script_grammar.specs.LineKinds.{report_line, reroute_line, resv_of, said_at_node, said_by, said_in_flight, said_left_over, said_other, seed_line, send_line, sender_wall}
 use Rattle.script_grammar.specs.LineKinds.{some_bytes, stale_blockade_line, stale_hop, stale_path_line, stale_resv_line, stale_sender, stale_senders, trace_line, want_line, want_of}
 use Rattle.script_grammar.specs.LineKinds.{want_senders, wild_word}
@@ -141,6 +143,11 @@ end_good (name ∷ node ∷ addr ∷ capacity ∷ mtu ∷ []) =
     (λ a _. on_read (number_of capacity) _ (λ c _. on_read (number_of mtu) _ (λ u _. a_name name n named)))))
 end_good _ = tt
 
+latency_good : (ws : List (List ℕ)) → Good (latency_line ws)
+unfolding latency_line
+latency_good (end ∷ micros ∷ []) = on_read (name_of end) _ (λ e _. on_read (number_of micros) _ (λ n _. tt))
+latency_good _ = tt
+
 link_good : (ws : List (List ℕ)) → Good (link_line ws)
 unfolding link_line
 link_good ws =
@@ -206,6 +213,11 @@ unfolding drop_line
 drop_good (node ∷ session ∷ sender ∷ []) = on_read (name_of node) _ (λ n _. on_read (session_of session) _ (λ s _. on_read (sender_of sender) _ (λ x _. tt)))
 drop_good _ = tt
 
+advert_good : (ws : List (List ℕ)) → Good (advert_line ws)
+unfolding advert_line
+advert_good (node ∷ session ∷ sender ∷ []) = on_read (name_of node) _ (λ n _. on_read (session_of session) _ (λ s _. on_read (sender_of sender) _ (λ x _. tt)))
+advert_good _ = tt
+
 want_of_good : (node session style senders flow : List ℕ) (confirm : Bool) → Good (want_of node session style senders flow confirm)
 unfolding want_of
 want_of_good node session style senders flow confirm =
@@ -251,6 +263,11 @@ unfolding flags_line
 flags_good [] = tt
 flags_good _ = tt
 
+adverts_good : (ws : List (List ℕ)) → Good (adverts_line ws)
+unfolding adverts_line
+adverts_good [] = tt
+adverts_good _ = tt
+
 inject_good : (ws : List (List ℕ)) → Good (inject_line ws)
 unfolding inject_line
 inject_good (end ∷ addr ∷ digits ∷ []) = on_read (name_of end) _ (λ e _. on_read (quad_of addr) _ (λ a _. on_read (bytes_of digits) _ (λ b read. bytes_form digits b read)))
@@ -274,7 +291,7 @@ by_first_good (kind ∷ more) other h k first behind = choose (bytes_eq first ki
 
 others_good : (f : List ℕ) (ws : List (List ℕ)) → Good (said_other f ws)
 unfolding AreGood said_other
-others_good = by_first_good others (λ f b. None) (trace_good, (report_good, (flags_good, (reroute_good, tt)))) (λ f b. tt)
+others_good = by_first_good others (λ f b. None) (trace_good, (report_good, (flags_good, (adverts_good, (reroute_good, tt))))) (λ f b. tt)
 
 flight_good : (f : List ℕ) (ws : List (List ℕ)) → Good (said_in_flight f ws)
 unfolding AreGood said_in_flight
@@ -292,7 +309,7 @@ flight_good =
 
 nodes_good : (f : List ℕ) (ws : List (List ℕ)) → Good (said_at_node f ws)
 unfolding AreGood said_at_node
-nodes_good = by_first_good at_nodes said_in_flight (send_good, (drop_good, (want_good, (quit_good, (clear_good, tt))))) flight_good
+nodes_good = by_first_good at_nodes said_in_flight (send_good, (drop_good, (advert_good, (want_good, (quit_good, (clear_good, tt)))))) flight_good
 
 left_good : (f : List ℕ) (ws : List (List ℕ)) → Good (said_left_over f ws)
 unfolding AreGood said_left_over
@@ -301,7 +318,7 @@ left_good = by_first_good left_over said_at_node (path_good, (resv_good, (wall_g
 said_good : (ws : List (List ℕ)) → Good (said_by ws)
 unfolding AreGood said_by
 said_good [] = tt
-said_good (first ∷ behind) = by_first_good declared said_left_over (period_good, (seed_good, (node_good, (end_good, (link_good, (hop_good, tt)))))) left_good first behind
+said_good (first ∷ behind) = by_first_good declared said_left_over (period_good, (seed_good, (node_good, (end_good, (latency_good, (link_good, (hop_good, tt))))))) left_good first behind
 
 pub formed : (text : List ℕ) (said : ScriptLine) → script_line_of text ≡ Some said → Formed said
 formed text said e = subst Good e (choose (is_comment text) (Some line.Skipped) (said_by (words_of text)) (λ _. tt) (said_good (words_of text)))

@@ -1,5 +1,5 @@
 -- Where one sender changed, the facts of other sessions and the offers of other senders are as they were.
-use Rattle.std.specs.Prelude.{◌≡◌, ℕ, Bool, true, false, cond, not, Some, None, refl}
+use Rattle.std.specs.Prelude.{◌≡◌, ℕ, Bool, true, false, cond, not, is_some, Some, None, refl}
 use Rattle.std.specs.Option.{option_map}
 use Rattle.std.specs.Ordering.{eq_by_cmp}
 use Rattle.std.proofs.Common.{sym, ap, ◌∙◌}
@@ -22,7 +22,7 @@ use Rattle.router_state.specs.RouterRules.Offers.{OfferKey, offers, own_offer, p
 use Rattle.router_state.specs.RouterRules.NodeConfig.{NodeConfig}
 use Rattle.router_state.specs.FactLaws.{is_way}
 use Rattle.router_state.proofs.Offering.{offers_by_way}
-use Rattle.router_state.specs.Changes.{paths_put, paths_without, recounted, senders_put, senders_without}
+use Rattle.router_state.specs.Changes.{advertised_put, paths_put, paths_without, recounted, senders_put, senders_without}
 use Rattle.router_state.specs.State.{State, facts_of, path_at, resv_at, table_in, wall_at}
 use Rattle.laws_sends.specs.Changed.{IsChangedFor}
 use Rattle.laws_sends.specs.SendsHere.{AreSameOf, IsChangedAt}
@@ -47,6 +47,7 @@ module _ (k : SenderKey) (n m : State) (ch : IsChangedFor k n m) (c : ℕ) where
   same_of s off = record {
     senders = same_table senders (senders_in (facts_of c n) s) (senders_in (facts_of c m) s)
         (λ x. get-under sessions senders n.senders s x ∙ ch.senders (s, x) (session_apart k (s, x) off) ∙ sym (get-under sessions senders m.senders s x));
+    advertised = λ x. ch.advertised (s, x) (session_apart k (s, x) off);
     paths = same_table senders (paths_in (facts_of c n) s) (paths_in (facts_of c m) s) (λ x. get-under sessions senders (facts_of c n).paths s x ∙ path_same (s, x) (session_apart k (s, x) off)
         ∙ sym (get-under sessions senders (facts_of c m).paths s x));
     wants = same_table units (wants_in (facts_of c n) s) (wants_in (facts_of c m) s) (λ u. get-under sessions units n.wants s u ∙ ch.wants (s, u) off ∙ sym (get-under sessions units m.wants s u));
@@ -66,7 +67,7 @@ module _ (k : SenderKey) (n m : State) (ch : IsChangedFor k n m) (c : ℕ) where
     elsewhere = same_of;
     others = λ j off.
         offers_by_way p (facts_of c n) j
-        ∙ (λ i. cond (is_way p j) (or_else (option_map own_offer (ch.senders (j.session, j.sender) off i)) (option_map path_offer (path_same (j.session, j.sender) off i))) None)
+        ∙ (λ i. cond (is_way p j) (or_else (option_map (own_offer (ch.advertised (j.session, j.sender) off i)) (ch.senders (j.session, j.sender) off i)) (option_map path_offer (path_same (j.session, j.sender) off i))) None)
         ∙ sym (offers_by_way p (facts_of c m) j);
   }
 
@@ -83,6 +84,7 @@ module _ (n : State) (k : SenderKey) where
   path_put fact left = record {
     place = refl;
     senders = λ j off. refl;
+    advertised = λ j off. refl;
     paths = λ j off. sym (get-put_in_other path_keys n.paths k (fact, left) j (turned k j off));
     wants = λ j off. refl;
     walls = λ j off. refl;
@@ -99,6 +101,7 @@ module _ (n : State) (k : SenderKey) where
   path_out = record {
     place = refl;
     senders = λ j off. refl;
+    advertised = λ j off. refl;
     paths = λ j off. sym (get-without path_keys n.paths k j ∙ ap (λ b. cond (not b) (get n.paths j) None) off);
     wants = λ j off. refl;
     walls = λ j off. refl;
@@ -115,6 +118,7 @@ module _ (n : State) (k : SenderKey) where
   sender_put tspec = record {
     place = refl;
     senders = λ j off. sym (get-put_in_other sender_keys n.senders k tspec j (turned k j off));
+    advertised = λ j off. refl;
     paths = λ j off. refl;
     wants = λ j off. refl;
     walls = λ j off. refl;
@@ -131,6 +135,7 @@ module _ (n : State) (k : SenderKey) where
   sender_out = record {
     place = refl;
     senders = λ j off. sym (get-without sender_keys n.senders k j ∙ ap (λ b. cond (not b) (get n.senders j) None) off);
+    advertised = λ j off. sym (ap is_some (get-without sender_keys n.advertised k j ∙ ap (λ b. cond (not b) (get n.advertised j) None) off));
     paths = λ j off. refl;
     wants = λ j off. refl;
     walls = λ j off. refl;
@@ -142,9 +147,26 @@ module _ (n : State) (k : SenderKey) where
       same Fixed q off = refl
       same Shared q off = refl
 
+-- a local sender that is advertised
+pub sender_advertised : (n : State) (k : SenderKey) → IsChangedFor k n (advertised_put n k)
+sender_advertised n k = record {
+  place = refl;
+  senders = λ j off. refl;
+  advertised = λ j off. sym (ap is_some (get-put_in_other sender_keys n.advertised k tt j (turned k j off)));
+  paths = λ j off. refl;
+  wants = λ j off. refl;
+  walls = λ j off. refl;
+  resvs = same;
+}
+  where
+    same : (st : StyleKind) (q : LineKey) → eq_by_cmp sessions.cmp k.0 q.0 ≡ false → get (table_in st n) q ≡ get (table_in st (advertised_put n k)) q
+    same Wild q off = refl
+    same Fixed q off = refl
+    same Shared q off = refl
+
 -- countdowns are no sender's
 pub recounted_change : (k : SenderKey) (n m : State) (s : Session) (counts : Bool) → IsChangedFor k n m → IsChangedFor k n (recounted m s counts)
-recounted_change k n m s counts ch = record { place = ch.place; senders = ch.senders; paths = ch.paths; wants = ch.wants; walls = ch.walls; resvs = same }
+recounted_change k n m s counts ch = record { place = ch.place; senders = ch.senders; advertised = ch.advertised; paths = ch.paths; wants = ch.wants; walls = ch.walls; resvs = same }
   where
     same : (st : StyleKind) (q : LineKey) → eq_by_cmp sessions.cmp k.0 q.0 ≡ false → get (table_in st n) q ≡ get (table_in st (recounted m s counts)) q
     same Wild q off = ch.resvs Wild q off

@@ -11,7 +11,7 @@ use Rattle.std.proofs.Common.{sym, ap, subst, inl, inr, ◌∙◌, T, arith}
 use Rattle.std.proofs.lemmas.Bool.{eqb-true, eq-eqb, ltb-true, lt-ltb}
 use Rattle.rsvp_base.specs.Members.{In}
 use Rattle.rsvp_base.specs.Orders.{sessions, senders}
-use Rattle.rsvp_base.specs.Table.{both, first, second, get, keys, passes}
+use Rattle.rsvp_base.specs.Table.{both, first, second, get, has, keys, passes}
 use Rattle.rsvp_base.specs.TokenBucket.{TokenBucket}
 use Rattle.rsvp_base.proofs.Filters.{same_test}
 use Rattle.rsvp_base.proofs.Fronts.{to_keys}
@@ -36,7 +36,7 @@ there : (f : Facts) (k : SenderKey) (w : Option Offer) → offered f k ≡ w →
 there f k w is some = by (get f.senders k) (get f.paths k) refl refl (ap is_some is ∙ some)
   where
     by : (v : Option TokenBucket) (u : Option PathState) → get f.senders k ≡ v → get f.paths k ≡ u
-        → is_some (or_else {X = Offer} (option_map own_offer v) (option_map path_offer u)) ≡ true
+        → is_some (or_else {X = Offer} (option_map (own_offer (has f.advertised k)) v) (option_map path_offer u)) ≡ true
         → In k (keys f.senders ++ keys f.paths)
     by (Some v) u g h e = in_left k (keys f.senders) (keys f.paths) (to_keys sender_keys f.senders k (ap is_some g))
     by None (Some u) g h e = in_right k (keys f.senders) (keys f.paths) (to_keys sender_keys f.paths k (ap is_some h))

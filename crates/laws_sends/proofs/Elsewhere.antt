@@ -149,7 +149,7 @@ module _ (p : NodeConfig) (t : Session → Bool) (f g : Facts) (same : AreSameOf
       ∙ ap (λ (t : Table senders TokenBucket). get t k.sender) of.senders ∙ get-under sessions senders g.senders k.session k.sender in
       let path : get f.paths (k.session, k.sender) ≡ get g.paths (k.session, k.sender) = sym (get-under sessions senders f.paths k.session k.sender)
       ∙ ap (λ (t : Table senders PathState). get t k.sender) of.paths ∙ get-under sessions senders g.paths k.session k.sender in
-      offers_by_way p f k ∙ (λ i. cond (is_way p k) (or_else (option_map own_offer (own i)) (option_map path_offer (path i))) None) ∙ sym (offers_by_way p g k)
+      offers_by_way p f k ∙ (λ i. cond (is_way p k) (or_else (option_map (own_offer (of.advertised k.sender i)) (own i)) (option_map path_offer (path i))) None) ∙ sym (offers_by_way p g k)
 
   pub path_tears_here : path_tears p (offers p f) (offers p g) ≡ each (path_tear p) (filter (λ k. not (has (offers p g) k)) (filter (λ k. t k.session) (keys (offers p f))))
   path_tears_here =

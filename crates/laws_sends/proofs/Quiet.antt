@@ -6,7 +6,7 @@ use Rattle.std.proofs.Common.{sym, ap, ◌∙◌}
 use Rattle.std.proofs.lemmas.Option.{same_Some}
 use Rattle.router_state.specs.PathState.Paths.{path_keys}
 use Rattle.router_state.specs.PathState.declared.fact.PathFact.{PathFact}
-use Rattle.rsvp_base.specs.Orders.{senders}
+use Rattle.rsvp_base.specs.Orders.{senders, sessions}
 use Rattle.rsvp_base.specs.Table.{changed, empty, get, has, keys, put_in}
 use Rattle.rsvp_base.specs.declared.session.Sender.{Sender}
 use Rattle.rsvp_base.specs.declared.session.Session.{Session}
@@ -26,7 +26,7 @@ use Rattle.router_state.proofs.Tests.{came_tested, came_told}
 use Rattle.router_state.specs.Changes.{paths_put}
 use Rattle.router_state.specs.State.{State, facts_of, path_at}
 use Rattle.router_state.proofs.Routed.{same_test}
-use Rattle.laws_sends.specs.SendsHere.{hops_in, lanes_at, sent_at}
+use Rattle.laws_sends.specs.SendsHere.{AreSameOff, hops_in, lanes_at, sent_at}
 use Rattle.laws_sends.specs.Told.{offered, told_gone, told_new}
 use Rattle.laws_sends.proofs.Changing.{one_sender_is_told}
 use Rattle.laws_sends.proofs.Elsewhere.{no_send, no_tear, toward_alike}
@@ -65,7 +65,8 @@ nothing_sent p f h =
     let sent = no_sends p f f (λ l. refl) (lanes_at k.0 (keys (hops_in f k.0))) in
     let gone = gone_same k (offered f k) in
     let new = told_same p k (offered f k) in
-    one_sender_is_told p k f f h (record { elsewhere = λ s off. record { senders = refl; paths = refl; wants = refl; resvs = λ st. refl; walls = λ t. refl }; others = λ j off. refl })
+    let same : AreSameOff (eq_by_cmp sessions.cmp k.0) f f = λ s off. record { senders = refl; advertised = λ x. refl; paths = refl; wants = refl; resvs = λ st. refl; walls = λ t. refl } in
+    one_sender_is_told p k f f h (record { elsewhere = same; others = λ j off. refl })
     ∙ (λ i. gone i ++ (torn i ++ (new i ++ sent i)))
   where
     gone_same : (k : SenderKey) (w : Option Offer) → told_gone p k w w ≡ []

@@ -102,6 +102,7 @@ module _ (p : NodeConfig) (c word : ℕ) (f : Facts) where
     stays =
         record {
           senders = refl;
+          advertised = λ x. refl;
           paths = same_paths;
           wants = refl;
           resvs = λ st. same_table (pairs next_hops units) (resvs_in st f s) (resvs_in st (waited p c word f) s)
@@ -114,23 +115,23 @@ module _ (p : NodeConfig) (c word : ℕ) (f : Facts) where
   offer_was j o e = by (get f.senders j) (get after.paths j) refl refl e
     where
       by : (v : Option TokenBucket) (w : Option PathState) → get f.senders j ≡ v → get after.paths j ≡ w
-          → or_else {X = Offer} (option_map own_offer v) (option_map path_offer w) ≡ Some o → offered f j ≡ Some o
-      by (Some t) w a b e = ap (λ v. or_else {X = Offer} (option_map own_offer v) (option_map path_offer (get f.paths j))) a ∙ e
+          → or_else {X = Offer} (option_map (own_offer (has f.advertised j)) v) (option_map path_offer w) ≡ Some o → offered f j ≡ Some o
+      by (Some t) w a b e = ap (λ v. or_else {X = Offer} (option_map (own_offer (has f.advertised j)) v) (option_map path_offer (get f.paths j))) a ∙ e
       by None (Some x) a b e =
-          (λ i. or_else {X = Offer} (option_map own_offer (a i)) (option_map path_offer (path_was j x b i))) ∙ e
+          (λ i. or_else {X = Offer} (option_map (own_offer (has f.advertised j)) (a i)) (option_map path_offer (path_was j x b i))) ∙ e
       by None None a b e = absurd (cc)
 
   died : (j : SenderKey) (o : Offer) → offered f j ≡ Some o → offered (waited p c word f) j ≡ None → (v : PathState) × (get f.paths j ≡ Some v) × (v.dies ≤ c)
   died j o here gone = by (get f.senders j) (get f.paths j) refl refl here gone
     where
       by : (v : Option TokenBucket) (w : Option PathState) → get f.senders j ≡ v → get f.paths j ≡ w
-          → or_else {X = Offer} (option_map own_offer v) (option_map path_offer w) ≡ Some o
-          → or_else {X = Offer} (option_map own_offer (get f.senders j)) (option_map path_offer (get after.paths j))
+          → or_else {X = Offer} (option_map (own_offer (has f.advertised j)) v) (option_map path_offer w) ≡ Some o
+          → or_else {X = Offer} (option_map (own_offer (has f.advertised j)) (get f.senders j)) (option_map path_offer (get after.paths j))
           ≡ None
           → (v : PathState) × (get f.paths j ≡ Some v) × (v.dies ≤ c)
       by (Some t) w a b h g =
-          let z : ◌≡◌ {A = Option Offer} (Some (own_offer t)) None =
-          sym (ap (λ v. or_else {X = Offer} (option_map own_offer v) (option_map path_offer (get after.paths j))) a)
+          let z : ◌≡◌ {A = Option Offer} (Some (own_offer (has f.advertised j) t)) None =
+          sym (ap (λ v. or_else {X = Offer} (option_map (own_offer (has f.advertised j)) v) (option_map path_offer (get after.paths j))) a)
           ∙ g in
           absurd (cc)
       by None None a b h g = absurd (cc)
@@ -141,7 +142,7 @@ module _ (p : NodeConfig) (c word : ℕ) (f : Facts) where
             (λ t.
             let lives = (waiting_leaves_the_living.of_paths p c word f j x).1 (b, ltb-true c x.dies t) in
             let z : ◌≡◌ {A = Option Offer} (Some (path_offer x)) None =
-            sym (λ i. or_else {X = Offer} (option_map own_offer (a i)) (option_map path_offer (lives i))) ∙ g in
+            sym (λ i. or_else {X = Offer} (option_map (own_offer (has f.advertised j)) (a i)) (option_map path_offer (lives i))) ∙ g in
             absurd (cc))
             (λ t. ltb-false c x.dies t),
       )

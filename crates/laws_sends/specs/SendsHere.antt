@@ -4,7 +4,8 @@ use Rattle.std.specs.List.{filter_map, flat_map}
 use Rattle.std.specs.Ordering.{eq_by_cmp}
 use Rattle.rsvp_base.specs.Orders.{sessions, senders}
 use Rattle.rsvp_base.specs.Sets.{Set, set_of}
-use Rattle.rsvp_base.specs.Table.{empty, get, keys}
+use Rattle.rsvp_base.specs.Table.{empty, get, has, keys}
+use Rattle.rsvp_base.specs.declared.session.Sender.{Sender}
 use Rattle.rsvp_base.specs.declared.session.Session.{Session}
 use Rattle.rsvp_base.specs.declared.style.StyleKind.{StyleKind}
 use Rattle.rsvp_base.specs.declared.style.StyleKind.TheVariants.{Wild, Fixed, Shared}
@@ -23,6 +24,7 @@ use Rattle.laws_sends.specs.Told.{offered, told_gone, told_new}
 -- two nodes' facts of a session are the same
 pub record AreSameOf (s : Session) (f g : Facts) : Type 0 where
   pub senders : senders_in f s ≡ senders_in g s
+  pub advertised : (x : Sender) → has f.advertised (s, x) ≡ has g.advertised (s, x)
   pub paths : paths_in f s ≡ paths_in g s
   pub wants : wants_in f s ≡ wants_in g s
   pub resvs : (st : StyleKind) → resvs_in st f s ≡ resvs_in st g s

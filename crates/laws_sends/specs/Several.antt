@@ -10,12 +10,12 @@ use Rattle.rsvp_base.specs.Under.{under}
 use Rattle.rsvp_base.specs.declared.session.Sender.{Sender}
 use Rattle.rsvp_base.specs.declared.session.Session.{Session}
 use Rattle.style_rules.specs.Merge.{table_at}
-use Rattle.router_rules.specs.Facts.{Facts, SenderKey, sender_keys}
-use Rattle.router_rules.specs.Inputs.{Send}
-use Rattle.router_rules.specs.Known.{Lane}
-use Rattle.router_rules.specs.NodeConfig.{NodeConfig, outward}
-use Rattle.router_rules.specs.Offers.{Offer, offers}
-use Rattle.router_rules.specs.Sends.{is_new_offer, path_send, path_tear}
+use Rattle.router_state.specs.RouterRules.Facts.{Facts, SenderKey, sender_keys}
+use Rattle.router_state.specs.RouterRules.Inputs.{Send}
+use Rattle.router_state.specs.RouterRules.Known.{Lane}
+use Rattle.router_state.specs.RouterRules.NodeConfig.{NodeConfig, outward}
+use Rattle.router_state.specs.RouterRules.Offers.{Offer, offers}
+use Rattle.router_state.specs.RouterRules.Sends.{is_new_offer, path_send, path_tear}
 use Rattle.laws_sends.specs.SendsHere.{hops_in, lanes_at}
 use Rattle.laws_sends.specs.Told.{offer_key, offered, paths_told, told_gone}
 

@@ -5,13 +5,13 @@ use Rattle.rsvp_base.specs.Orders.{sessions}
 use Rattle.rsvp_base.specs.Sets.{Set}
 use Rattle.rsvp_base.specs.Table.{has, keys}
 use Rattle.rsvp_base.specs.declared.session.Session.{Session}
-use Rattle.router_rules.specs.Facts.{Facts, SenderKey, sender_keys}
-use Rattle.router_rules.specs.Inputs.{Change}
-use Rattle.router_rules.specs.Known.{Lane, lanes}
-use Rattle.router_rules.specs.NodeConfig.{NodeConfig}
-use Rattle.router_rules.specs.Offers.{Offer, offers}
-use Rattle.router_rules.specs.Requests.{toward}
-use Rattle.router_rules.specs.Sends.{path_sends, path_tears, resv_send_to, resv_tear, sends}
+use Rattle.router_state.specs.RouterRules.Facts.{Facts, SenderKey, sender_keys}
+use Rattle.router_state.specs.RouterRules.Inputs.{Change}
+use Rattle.router_state.specs.RouterRules.Known.{Lane, lanes}
+use Rattle.router_state.specs.RouterRules.NodeConfig.{NodeConfig}
+use Rattle.router_state.specs.RouterRules.Offers.{Offer, offers}
+use Rattle.router_state.specs.RouterRules.Requests.{toward}
+use Rattle.router_state.specs.RouterRules.Sends.{path_sends, path_tears, resv_send_to, resv_tear, sends}
 use Rattle.router_state.specs.State.{Said, said_at}
 use Rattle.laws_sends.specs.Saying.{told_lane, torn_lane}
 use Rattle.laws_sends.specs.SendsHere.{AreSameOf}

@@ -9,12 +9,12 @@ use Rattle.rsvp_base.specs.declared.style.StyleKind.{StyleKind}
 use Rattle.rsvp_base.specs.declared.style.Unit.{Unit as UnitOf}
 use Rattle.style_rules.specs.Lines.{NextHop}
 use Rattle.style_rules.specs.declared.target.Target.{Target}
-use Rattle.router_rules.specs.Facts.{Blockade, Facts, PathState, ResvState, SenderKey, resvs_of, sender_keys}
-use Rattle.router_rules.specs.Known.{Lane, lanes}
-use Rattle.router_rules.specs.NodeConfig.{NodeConfig}
-use Rattle.router_rules.specs.Rule.{settled}
-use Rattle.router_rules.specs.Sends.{resv_send_to, resv_tear, sends}
-use Rattle.router_rules.specs.Waiting.{act_wait}
+use Rattle.router_state.specs.RouterRules.Facts.{Blockade, Facts, PathState, ResvState, SenderKey, resvs_of, sender_keys}
+use Rattle.router_state.specs.RouterRules.Known.{Lane, lanes}
+use Rattle.router_state.specs.RouterRules.NodeConfig.{NodeConfig}
+use Rattle.router_state.specs.RouterRules.Rule.{settled}
+use Rattle.router_state.specs.RouterRules.Sends.{resv_send_to, resv_tear, sends}
+use Rattle.router_state.specs.RouterRules.Waiting.{act_wait}
 use Rattle.router_state.specs.State.{AreNamed}
 use Rattle.laws_sends.specs.SendsHere.{AreSameOf}
 use Rattle.laws_sends.specs.Several.{AreSessions, gone_told, is_among, lanes_for, refreshed}

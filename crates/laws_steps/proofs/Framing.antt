@@ -17,10 +17,10 @@ use Rattle.laws_bounds.specs.LawsInputs.RouterRules.Inputs.{Input, Call, Wait, C
 use Rattle.laws_bounds.specs.LawsInputs.RouterRules.Known.{known, named_as}
 use Rattle.laws_bounds.specs.LawsInputs.RouterRules.NodeConfig.{NodeConfig}
 use Rattle.laws_bounds.proofs.LawsInputs.Leaving.{left_whole}
-use Rattle.laws_bounds.specs.LawsInputs.Frames.{AreSameButMarks, on_paths, on_resvs, on_senders, on_wants}
+use Rattle.laws_bounds.specs.LawsInputs.Frames.{AreSameButMarks, on_advertised, on_paths, on_resvs, on_senders, on_wants}
 use Rattle.laws_steps.specs.FrameLaws.{CalmStepsKeepTheLocals, LeftAsItWas}
 use Rattle.laws_bounds.specs.LawsInputs.RouterRules.Steps.{facts_then, is_calm, left_by}
-use Rattle.laws_bounds.proofs.LawsInputs.Framing.{act_senders, act_wants, act_paths, act_resvs, act_walls, wants_then}
+use Rattle.laws_bounds.proofs.LawsInputs.Framing.{act_advertised, act_senders, act_wants, act_paths, act_resvs, act_walls, wants_then}
 
 wants_left : (old p : NodeConfig) (c : ℕ) (i : Input) (f : Facts) → on_wants i ≡ false → AreSameButMarks f.wants (facts_then old p c i f).wants
 wants_left old p c i f n = subst (λ t. AreSameButMarks t (facts_then old p c i f).wants) (act_wants p c i f n) (wants_then old p c i f)
@@ -62,6 +62,7 @@ pub left_as_it_was : LeftAsItWas
 left_as_it_was =
     record {
       senders = λ step n. act_senders step.now step.after step.input step.facts n;
+      advertised = λ step n. act_advertised step.now step.after step.input step.facts n;
       wants = λ step n. wants_left step.old step.now step.after step.input step.facts n;
       paths = λ step n. act_paths step.now step.after step.input step.facts n;
       walls = λ step n. act_walls step.now step.after step.input step.facts n;
@@ -69,16 +70,17 @@ left_as_it_was =
       resvs_whole = λ step within r s t. whole step.old step.now step.before step.after step.input step.facts within r s t;
     }
 
-calm_on : (i : Input) → is_calm i ≡ true → (on_senders i ≡ false) × (on_wants i ≡ false)
+calm_on : (i : Input) → is_calm i ≡ true → (on_senders i ≡ false) × ((on_advertised i ≡ false) × (on_wants i ≡ false))
 calm_on (Call l) q = absurd (cc)
-calm_on (Wait ms word) q = (refl, refl)
+calm_on (Wait ms word) q = (refl, (refl, refl))
 calm_on Clear q = absurd (cc)
-calm_on (Came e dst a) q = (refl, refl)
+calm_on (Came e dst a) q = (refl, (refl, refl))
 calm_on Moved q = absurd (cc)
 
 pub calm_steps_keep_the_locals : CalmStepsKeepTheLocals
 calm_steps_keep_the_locals =
     record {
       senders = λ step within q. act_senders step.now step.after step.input step.facts (calm_on step.input q).0;
-      wants = λ step within q. wants_left step.old step.now step.after step.input step.facts (calm_on step.input q).1;
+      advertised = λ step within q. act_advertised step.now step.after step.input step.facts (calm_on step.input q).1.0;
+      wants = λ step within q. wants_left step.old step.now step.after step.input step.facts (calm_on step.input q).1.1;
     }

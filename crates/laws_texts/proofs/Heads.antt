@@ -169,6 +169,14 @@ unfolding session_text
 session_some s =
     omega (arith, length-append (addr_text s.group ++ codes "/" ++ decimal s.proto ++ codes "/") (decimal s.port), length-append (addr_text s.group ++ codes "/" ++ decimal s.proto) (codes "/"))
 
+pub sender_before_e : (s : Sender) → list_all is_before_e (sender_text s) ≡ true
+unfolding sender_text
+sender_before_e s = before_e (addr_text s.addr ++ codes ":") (decimal s.port) (before_e (addr_text s.addr) (codes ":") (addr_before_e s.addr) refl) (digits_before_e s.port)
+
+sender_some : (s : Sender) → 0 < length (sender_text s)
+unfolding sender_text
+sender_some s = omega (arith, length-append (addr_text s.addr ++ codes ":") (decimal s.port), length-append (addr_text s.addr) (codes ":"))
+
 -- ---- what values are made of
 seen : (xs : List ℕ) → list_all is_before_e xs ≡ true → list_all is_visible xs ≡ true
 seen = weaker is_before_e is_visible (λ c h. (and_both (is_visible c) (nat_lt c 101) h).0)
@@ -182,8 +190,13 @@ style_seen Fixed = refl
 style_seen Shared = refl
 
 sender_seen : (s : Sender) → list_all is_visible (sender_text s) ≡ true
-unfolding sender_text
-sender_seen s = both_seen (addr_text s.addr ++ codes ":") (decimal s.port) (both_seen (addr_text s.addr) (codes ":") (seen (addr_text s.addr) (addr_before_e s.addr)) refl) (digits_visible s.port)
+sender_seen s = seen (sender_text s) (sender_before_e s)
+
+pub session_word : (s : Session) → IsWord (session_text s)
+session_word s = (session_some s, seen (session_text s) (session_before_e s))
+
+pub sender_word : (s : Sender) → IsWord (sender_text s)
+sender_word s = (sender_some s, sender_seen s)
 
 name_seen : (st : StyleKind) (s : Sender) → list_all is_visible (name_text st s) ≡ true
 name_seen Wild s = seen (addr_text s.addr) (addr_before_e s.addr)
@@ -193,7 +206,7 @@ name_seen Shared s = sender_seen s
 names_seen : (st : StyleKind) (names : List Sender) → list_all is_visible (names_text st names) ≡ true
 names_seen st names = all_parted is_visible (name_text st) (codes ",") refl (name_seen st) names
 
-peak_seen : (p : Peak) → list_all is_visible (peak_text p) ≡ true
+pub peak_seen : (p : Peak) → list_all is_visible (peak_text p) ≡ true
 peak_seen Infinite = refl
 peak_seen (Finite n) = digits_visible n
 

@@ -10,12 +10,13 @@ use Rattle.rsvp_base.proofs.SetLaws.{and_both}
 use Rattle.rsvp_base.specs.EndNames.{is_digit, is_lower_case, is_name, is_name_byte}
 use Rattle.network_model.specs.TreeModel.declared.hops.End.{End}
 use Rattle.script_grammar.specs.Adds.{Adds}
-use Rattle.script_grammar.specs.Draft.{Draft, nothing}
+use Rattle.script_grammar.specs.Draft.{Draft, end_number, nothing}
 use Rattle.script_grammar.specs.Grammar.{Leads}
 use Rattle.script_grammar.specs.Rules.{Keeps, KeepsAll}
 use Rattle.script_grammar.specs.Values.{end_value}
 use Rattle.script_grammar.specs.declared.line.ScriptLine.{ScriptLine}
 use Rattle.script_grammar.specs.declared.line.ScriptLine.TheVariants as line
+use Rattle.laws_scripts.proofs.HostLines.{latency_was}
 use Rattle.laws_scripts.proofs.Leading.{led}
 use Rattle.laws_scripts.proofs.Words.{Formed, formed}
 use Rattle.laws_texts.proofs.Bytes.{is_visible, weaker}
@@ -59,6 +60,12 @@ by_line d (line.End l) new h formed rules adds = record {
       ⊎_elim (λ (j : In x d.net.ends). h.small x j)
       (λ (j : In x (end_value d l ∷ [])). ⊎_elim (λ (e : x ≡ end_value d l). subst (λ (z : End). z.iface.capacity < 2 ^ 46) (sym e) rules.in_range.capacity) (λ (e : ⊥). absurd e) j)
       (in_append x d.net.ends (end_value d l ∷ []) (subst (λ (z : List End). In x z) (ap (λ (z : Draft). z.net.ends) adds) i));
+}
+by_line d (line.Latency l) new h formed rules adds = record {
+  names = λ name i. h.names name (subst (λ (z : List (List ℕ)). In name z) (ap (λ (z : Draft). z.names) adds) i);
+  small = λ x i.
+      let r = latency_was d.net.ends (end_number d l.end) l.latency x (subst (λ (z : List End). In x z) (ap (λ (z : Draft). z.net.ends) adds) i) in
+      subst (λ (c : ℕ). c < 2 ^ 46) (sym r.3) (h.small r.0 r.1);
 }
 by_line d (line.Inject l) new h formed rules adds = same d new h (ap (λ (z : Draft). z.names) adds.2) (ap (λ (z : Draft). z.net.ends) adds.2)
 by_line d said new h formed rules adds = same d new h (ap (λ (z : Draft). z.names) adds) (ap (λ (z : Draft). z.net.ends) adds)

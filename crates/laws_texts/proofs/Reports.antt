@@ -2,11 +2,17 @@
 use Rattle.std.proofs.Common.{◌≡◌, ℕ, ◌<◌, ◌≤◌, ◌^◌, List, [], ◌∷◌, ◌++◌, Bool, true, false, cond, Option, None, Some, length, refl, sym, ap, subst, ◌∙◌, arith, append_assoc}
 use Rattle.std.specs.Prelude.{codes, map as each, slice_get}
 use Rattle.std.specs.Fmt.{decimal}
-use Rattle.std.specs.List.{flat_map, range_with_len}
+use Rattle.std.specs.List.{flat_map, list_all, range_with_len}
 use Rattle.rsvp_base.specs.declared.entry_key.EntryKey.{EntryKey}
 use Rattle.rsvp_base.specs.declared.part.Part.{Part}
 use Rattle.script_words.specs.Words.{words_of}
+use Rattle.rsvp_base.specs.declared.session.Sender.{Sender}
+use Rattle.rsvp_base.specs.declared.session.Session.{Session}
+use Rattle.value_texts.specs.AdspecText.{adspec_words, broken_text, load_text, packet_text, rate_text}
 use Rattle.value_texts.specs.Reports.{entry_text, head_text, held_of}
+use Rattle.value_texts.specs.Texts.{peak_text, sender_text, session_text}
+use Rattle.network_model.specs.RouterRules.Adverts.{adverts_at}
+use Rattle.network_model.specs.RouterRules.RsvpMessages.RsvpObjects.ObjectFields.declared.adspec.Adspec.{Adspec}
 use Rattle.network_model.specs.RouterRules.RsvpMessages.declared.message.Kind.{Kind}
 use Rattle.network_model.specs.RouterRules.RsvpMessages.declared.message.Kind.TheVariants as kind
 use Rattle.network_model.specs.RouterRules.RsvpMessages.Kinds.{kind_of}
@@ -23,17 +29,17 @@ use Rattle.network_model.specs.RouterRules.declared.entry.Entry.{Entry}
 use Rattle.network_model.specs.RouterRules.declared.entry.Police.{Police}
 use Rattle.network_model.specs.TreeModel.declared.hops.End.{End}
 use Rattle.network_model.specs.TreeModel.Networks.{iface_of}
-use Rattle.network_model.specs.Runs.{arrival_text, delivery_text, end_report, flags_report, heard_line, heard_text, is_crowded, kind_text, node_facts, plain_report, text_of, uncrowded}
+use Rattle.network_model.specs.Runs.{adverts_report, arrival_text, delivery_text, end_report, flags_report, heard_line, heard_text, is_crowded, kind_text, node_facts, plain_report, text_of, uncrowded}
 use Rattle.network_model.specs.Runs.{whole_report, why_text, with_parts, written}
-use Rattle.network_model.specs.Steps.{Step, Piece, Deliver, Lose, Copy, At, ClearAt, Trace, Report, Flags, Inject, Reroute, step, outcome, machine}
-use Rattle.network_model.specs.Texts.{flag_text, flagged_text, police_text}
+use Rattle.network_model.specs.Steps.{Step, Piece, Deliver, Lose, Copy, At, ClearAt, Trace, Report, Flags, Adverts, Inject, Reroute, step, outcome, machine}
+use Rattle.network_model.specs.Texts.{advert_text, flag_text, flagged_text, police_text}
 use Rattle.network_model.specs.Worlds.{Item, World, config_of}
 use Rattle.laws_network.proofs.Keeping.{ends_same}
 use Rattle.calm_rounds.specs.Hold.{Visited}
 use Rattle.laws_safety.specs.Books.{AreBooksWithinCapacity}
 use Rattle.laws_texts.specs.Reading.{IsWithin}
-use Rattle.laws_texts.proofs.Bytes.{digits_visible, lacks}
-use Rattle.laws_texts.proofs.Heads.{IsWord, no_feed_both, told_entry, told_head}
+use Rattle.laws_texts.proofs.Bytes.{digits_visible, is_before_e, lacks}
+use Rattle.laws_texts.proofs.Heads.{IsWord, no_feed_both, peak_seen, sender_before_e, sender_word, session_word, told_entry, told_head}
 use Rattle.laws_texts.proofs.Lines.{IsTold, no_feed, told_both, told_each, told_line, told_none, word_first, word_last}
 
 -- ---- what is heard: its third word is no `held`
@@ -128,6 +134,15 @@ module _ (name : List ℕ) (is : IsWord name) (a : Arrival) (h : Heard) where
   told_delivery : IsTold (delivery_text name a h)
   told_delivery = told_line (delivery_text name a h) delivery_line delivery_ended delivery_lacks delivery_within
 
+broken_lacks : (b : Bool) → lacks 10 (broken_text b) ≡ true
+broken_lacks true = refl
+broken_lacks false = refl
+
+load_lacks : (o : Option Bool) → lacks 10 (load_text o) ≡ true
+load_lacks None = refl
+load_lacks (Some true) = refl
+load_lacks (Some false) = refl
+
 -- ---- reports of an end
 flag_lacks : (set : List ℕ) (b : Bool) → lacks 10 set ≡ true → lacks 10 (flag_text set b) ≡ true
 flag_lacks set true h = h
@@ -166,6 +181,70 @@ told_flags p name x i f is within small =
     told_both (head_text name (held_of (each keyed entries)) x.iface.capacity) (flat_map flagged_text entries)
     (told_head name is (held_of (each keyed entries)) x.iface.capacity (omega (arith, same, within, small)) (omega (arith, small)) (omega (arith, same, within)))
     (told_each flagged_text (λ e. told_entry e.key e.part (police_text e.police) (police_lacks e.police)) entries)
+
+-- ---- what the paths offer: its third word is a sender, which is no `held`
+module _ (name : List ℕ) (is : IsWord name) (s : Session) (x : Sender) (a : Adspec) where
+  abbrev offered : List ℕ
+  offered =
+      codes "hops " ++ decimal a.hops ++ codes " rate " ++ peak_text a.rate ++ packet_text a ++ broken_text a.broken ++ load_text a.load
+
+  advert_line : List ℕ
+  advert_line = name ++ codes " " ++ session_text s ++ codes " " ++ sender_text x ++ adspec_words a
+
+  advert_parts : advert_line ≡ name ++ 32 ∷ (session_text s ++ 32 ∷ (sender_text x ++ 32 ∷ offered))
+  unfolding advert_line adspec_words rate_text
+  advert_parts =
+      append_assoc (name ++ codes " " ++ session_text s ++ codes " ") (sender_text x) (32 ∷ offered)
+      ∙ append_assoc (name ++ codes " " ++ session_text s) (codes " ") (sender_text x ++ 32 ∷ offered)
+      ∙ append_assoc (name ++ codes " ") (session_text s) (32 ∷ (sender_text x ++ 32 ∷ offered))
+      ∙ append_assoc name (codes " ") (session_text s ++ 32 ∷ (sender_text x ++ 32 ∷ offered))
+
+  advert_words : words_of advert_line ≡ name ∷ session_text s ∷ sender_text x ∷ words_of offered
+  advert_words =
+      ap words_of advert_parts ∙ word_first name (session_text s ++ 32 ∷ (sender_text x ++ 32 ∷ offered)) is.0 is.1
+      ∙ ap (λ (ws : List (List ℕ)). name ∷ ws) (word_first (session_text s) (sender_text x ++ 32 ∷ offered) (session_word s).0 (session_word s).1)
+      ∙ ap (λ (ws : List (List ℕ)). name ∷ session_text s ∷ ws) (word_first (sender_text x) offered (sender_word x).0 (sender_word x).1)
+
+  -- a sender has no letter
+  advert_within : IsWithin advert_line
+  unfolding third_of
+  advert_within p q head =
+      let same : sender_text x ≡ codes "held" = ap third_of (sym advert_words ∙ head.words) in
+      let no : true ≡ false = sym (sender_before_e x) ∙ ap (list_all is_before_e) same in
+      absurd (cc)
+
+  offered_lacks : lacks 10 (adspec_words a) ≡ true
+  unfolding adspec_words rate_text packet_text
+  offered_lacks =
+      let hops = no_feed_both (codes " hops ") (decimal a.hops) refl (no_feed (decimal a.hops) (digits_visible a.hops)) in
+      let rate = no_feed_both (codes " hops " ++ decimal a.hops ++ codes " rate ") (peak_text a.rate) (no_feed_both (codes " hops " ++ decimal a.hops) (codes " rate ") hops refl)
+      (no_feed (peak_text a.rate) (peak_seen a.rate)) in
+      let latency = no_feed_both (codes " latency ") (decimal a.latency) refl (no_feed (decimal a.latency) (digits_visible a.latency)) in
+      let packet = no_feed_both (codes " latency " ++ decimal a.latency ++ codes " mtu ") (decimal a.mtu) (no_feed_both (codes " latency " ++ decimal a.latency) (codes " mtu ") latency refl)
+      (no_feed (decimal a.mtu) (digits_visible a.mtu)) in
+      no_feed_both (rate_text a ++ packet_text a ++ broken_text a.broken) (load_text a.load)
+      (no_feed_both (rate_text a ++ packet_text a) (broken_text a.broken) (no_feed_both (rate_text a) (packet_text a) rate packet) (broken_lacks a.broken)) (load_lacks a.load)
+
+  advert_lacks : lacks 10 advert_line ≡ true
+  unfolding advert_line
+  advert_lacks =
+      no_feed_both (name ++ codes " " ++ session_text s ++ codes " " ++ sender_text x) (adspec_words a)
+      (no_feed_both (name ++ codes " " ++ session_text s ++ codes " ") (sender_text x)
+      (no_feed_both (name ++ codes " " ++ session_text s) (codes " ")
+      (no_feed_both (name ++ codes " ") (session_text s) (no_feed_both name (codes " ") (no_feed name is.1) refl) (no_feed (session_text s) (session_word s).1)) refl)
+      (no_feed (sender_text x) (sender_word x).1))
+      offered_lacks
+
+  advert_ended : advert_text name ((s, x), a) ≡ advert_line ++ 10 ∷ []
+  unfolding advert_line
+  advert_ended = refl
+
+  told_advert : IsTold (advert_text name ((s, x), a))
+  told_advert = told_line (advert_text name ((s, x), a)) advert_line advert_ended advert_lacks advert_within
+
+told_adverts : Reports adverts_report
+unfolding Reports
+told_adverts p name x i f is within small = told_each (advert_text name) (λ e. told_advert name is e.0.0 e.0.1 e.1) (adverts_at f i)
 
 -- ---- what a step writes
 told_parts : (t : List ℕ → End → Facts → List ℕ) (n : Option (List ℕ)) (x : Option End) (f : Option Facts)
@@ -215,6 +294,7 @@ module _ (q : ℕ) (names : List (List ℕ)) where
       told_step (Report None) = told_whole plain_report told_plain
       told_step (Report (Some e)) = told_end plain_report told_plain e
       told_step Flags = told_whole flags_report told_flags
+      told_step Adverts = told_whole adverts_report told_adverts
       told_step (Inject e dst a) = told_none
       told_step (Reroute g s hops) = told_none
 

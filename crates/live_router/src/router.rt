@@ -10,8 +10,9 @@ ghost use Rattle.network_replay.specs.Following.{AreProper};
 use crate::live_router::LiveRouter;
 use network_model::LocalCall;
 use network_replay::Router;
+use object_fields::Adspec;
 use router_rules::{Entry, Heard, LocalErr, Outbox, Route};
-use rsvp_base::Addr;
+use rsvp_base::{Addr, Sender, Session};
 use rsvp_messages::{Message, MsgErr};
 use std::mem;
 
@@ -57,6 +58,9 @@ impl Router for LiveRouter {
                 sender,
                 flow,
             } => self.node.local_send(*session, *sender, *flow, out),
+            LocalCall::Advert { session, sender } => {
+                self.node.local_advert(*session, *sender, out)
+            }
             LocalCall::Gone { session, sender } => self.node.local_drop(*session, *sender, out),
             LocalCall::Want {
                 session,
@@ -87,5 +91,9 @@ impl Router for LiveRouter {
 
     fn entry(&self, iface: u8, k: usize) -> Option<Entry> {
         self.node.entry_at(iface, k)
+    }
+
+    fn advert_at(&self, iface: u8, k: usize) -> Option<(Session, Sender, Adspec)> {
+        self.node.advert_at(iface, k)
     }
 }

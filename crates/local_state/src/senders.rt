@@ -1,15 +1,17 @@
 //! Local senders.
-ghost use Rattle.std.specs.Prelude.{◌≡◌, ◌≤◌, ◌↔◌, false, map, length, vec_capacity, IfOk, IsErr, OnOk, OnErr};
+ghost use Rattle.std.specs.Prelude.{◌≡◌, ◌≤◌, ◌↔◌, cond, false, is_some, map, length, vec_capacity, IfOk, IfSome, IsErr, OnOk, OnErr};
 ghost use Rattle.std.specs.List.{list_any};
+ghost use Rattle.std.specs.Option.{option_map};
 ghost use Rattle.std.specs.Ordering.{is_le, is_lt};
 ghost use Rattle.rsvp_base.specs.Orders.{sessions, senders};
 ghost use Rattle.rsvp_base.specs.Rows.{AreRows, table_of};
 ghost use Rattle.rsvp_base.specs.SessionLimits.{IsWithinSessionLimits, has_room_at};
+ghost use Rattle.rsvp_base.specs.Sets.{with_key};
 ghost use Rattle.rsvp_base.specs.Table.{empty, get, has, keys, put_in, without};
 ghost use Rattle.rsvp_base.specs.Under.{rows_under, under};
 ghost use Rattle.router_rules.specs.Facts.{sender_keys};
 ghost use Rattle.router_rules.specs.NodeConfig.{is_addr};
-ghost use Rattle.local_state.specs.Rows.{sender_row, tspec_row, IsCounted};
+ghost use Rattle.local_state.specs.Rows.{mark_row, sender_row, tspec_row, IsCounted};
 
 use crate::insert::insert_row;
 use crate::sizes::{has_room, with_session, without_session};
@@ -21,12 +23,13 @@ use std::marker::Model;
 // At most so many senders: 16 of each of 32 sessions.
 const ROOM: usize = 512;
 
-/// A local sender, and the traffic that it announces.
+/// A local sender, the traffic that it announces, and whether its node tells what its path offers (RFC 2210, 3.3).
 #[derive(Clone, Copy, Debug, PartialEq, Eq)]
 pub struct LocalSender {
     pub session: Session,
     pub sender: Sender,
     pub tspec: Flow,
+    pub advertised: bool,
 }
 
 impl sorted::Row for LocalSender {
@@ -45,13 +48,14 @@ impl sorted::Row for LocalSender {
 }
 
 /// The local senders, one for a session and sender. Contracts see a finite map from session and sender to the traffic that
-/// the sender announces. At most 32 sessions have some, and at most 16 each.
+/// the sender announces, and the set of those that are advertised. At most 32 sessions have some, and at most 16 each.
 #[derive(Drop)]
 pub struct LocalSenders {
     rows: Vec<LocalSender>,
     // How many sessions have some.
     held: usize,
     ghost rising: { AreRows sender_keys sender_row rows.items },
+    ghost marks: { AreRows sender_keys mark_row rows.items },
     ghost within: { IsWithinSessionLimits senders (table_of sender_keys sender_row rows.items rising) },
     ghost counted: { IsCounted held (table_of sender_keys sender_row rows.items rising) },
     ghost room: { 512 ≤ vec_capacity rows },
@@ -59,56 +63,60 @@ pub struct LocalSenders {
 
 impl Model for LocalSenders {
     ghost use Rattle.rsvp_base.specs.Rows.{table_of};
-    ghost use Rattle.rsvp_base.specs.Table.{Table};
-    ghost use Rattle.rsvp_base.specs.TokenBucket.{TokenBucket};
+    ghost use Rattle.rsvp_base.specs.Table.{changed};
     ghost use Rattle.router_rules.specs.Facts.{sender_keys};
-    ghost use Rattle.local_state.specs.Rows.{sender_row, senders_code};
+    ghost use Rattle.local_state.specs.Rows.{Announced, is_marked, mark_row, sender_row, senders_code};
 
-    ghost Value = { Table sender_keys TokenBucket };
+    ghost Value = { Announced };
 
     ghost coded = { senders_code };
 
-    ghost view = { λ t. table_of sender_keys sender_row t.rows.items t.rising };
+    ghost view = { λ t. record {
+      tspecs = table_of sender_keys sender_row t.rows.items t.rising;
+      advertised = changed is_marked (table_of sender_keys mark_row t.rows.items t.marks);
+    } };
 }
 
 impl LocalSenders {
     /// No sender. It takes no memory later. `NoMemory`: the room could not be had.
     pub fn open(alloc: Global) -> Result<LocalSenders, NoMemory>
-        ensures { IfOk result (λ t. t ≡ empty) }
+        ensures { IfOk result (λ t. t ≡ record { tspecs = empty; advertised = empty }) }
     {
         let rows = Vec::with_capacity(alloc, ROOM)?;
         Ok(LocalSenders { rows, held: 0 })
     }
 
-    /// What a sender announces. `None` exactly where there is no such local sender.
-    pub fn find(&self, session: Session, sender: Sender) -> Option<Flow>
-        ensures flow { result ≡ get self.now (session, sender) }
+    /// A sender, as it is here. `None` exactly where there is no such local sender.
+    pub fn find(&self, session: Session, sender: Sender) -> Option<LocalSender>
+        ensures there { is_some result ≡ has self.now.tspecs (session, sender) }
+        ensures flow { option_map (λ r. r.tspec) result ≡ get self.now.tspecs (session, sender) }
+        ensures advertised { IfSome result (λ r. r.advertised ≡ has self.now.advertised (session, sender)) }
         // What holds of every table.
-        ensures within { IsWithinSessionLimits senders self.now }
+        ensures within { IsWithinSessionLimits senders self.now.tspecs }
     {
         match search(self.rows.as_slice(), &(session, sender)) {
-            Ok(at) => Some(self.rows[at].tspec),
+            Ok(at) => Some(self.rows[at]),
             Err(_) => None,
         }
     }
 
     /// What holds of every table: it is within its limits. This says it to who needs to know, and looks nothing up.
     pub fn limits(&self)
-        ensures { IsWithinSessionLimits senders self.now }
+        ensures { IsWithinSessionLimits senders self.now.tspecs }
     {
         let _rows = &self.rows;
     }
 
     /// All of them, in order of session and sender.
     pub fn as_slice(&self) -> &[LocalSender]
-        ensures { map sender_row result.now ≡ self.now.rows }
+        ensures { map sender_row result.now ≡ self.now.tspecs.rows }
     {
         self.rows.as_slice()
     }
 
     /// Those of a session, in order of sender: at most 16.
     pub fn of(&self, session: Session) -> &[LocalSender]
-        ensures rows { map tspec_row result.now ≡ (under sessions senders self.now session).rows }
+        ensures rows { map tspec_row result.now ≡ (under sessions senders self.now.tspecs session).rows }
         ensures few { length result.now ≤ 16 }
     {
         of_session(self.rows.as_slice(), session)
@@ -116,26 +124,21 @@ impl LocalSenders {
 
     /// Whether a session has a local sender of this address.
     pub fn has_address(&self, session: Session, addr: Addr) -> bool
-        ensures { result ≡ list_any (λ x. is_addr x.addr addr) (keys (under sessions senders self.now session)) }
+        ensures { result ≡ list_any (λ x. is_addr x.addr addr) (keys (under sessions senders self.now.tspecs session)) }
     {
         any_of_address(self.of(session), addr)
     }
 
-    /// Puts a sender with what it announces, in place of what it announced before. `Full` exactly where this would be the
-    /// first of a 33rd session, or a 17th of its session; nothing changes then.
+    /// Puts a sender with what it announces, in place of what it announced before; one that is advertised stays so. `Full`
+    /// exactly where this would be the first of a 33rd session, or a 17th of its session; nothing changes then.
     pub fn put(&mut self, session: Session, sender: Sender, tspec: Flow) -> Result<(), Full>
-        ensures ok { OnOk result (self.new ≡ put_in self.old (session, sender) tspec) }
-        ensures full { IsErr result ↔ (has_room_at senders (put_in self.old (session, sender) tspec) session ≡ false) }
+        ensures ok { OnOk result (self.new ≡ record self.old { tspecs = put_in self.old.tspecs (session, sender) tspec }) }
+        ensures full { IsErr result ↔ (has_room_at senders (put_in self.old.tspecs (session, sender) tspec) session ≡ false) }
         ensures err { OnErr result (self.new ≡ self.old) }
     {
-        let row = LocalSender {
-            session,
-            sender,
-            tspec,
-        };
         match search(self.rows.as_slice(), &(session, sender)) {
             Ok(at) => {
-                self.rows[at] = row;
+                self.rows[at].tspec = tspec;
                 Ok(())
             }
             Err(at) => {
@@ -144,16 +147,35 @@ impl LocalSenders {
                     return Err(Full);
                 }
                 self.held = with_session(among, self.held);
+                let row = LocalSender {
+                    session,
+                    sender,
+                    tspec,
+                    advertised: false,
+                };
                 insert_row(&mut self.rows, at, row);
                 Ok(())
             }
         }
     }
 
-    /// Takes a sender out. False exactly where there is no such local sender; nothing changes then.
+    /// A sender is advertised from now on. False exactly where there is no such local sender; nothing changes then.
+    pub fn advertise(&mut self, session: Session, sender: Sender) -> bool
+        ensures was { result ≡ has self.old.tspecs (session, sender) }
+        ensures marked { self.new ≡ record self.old { advertised = cond result (with_key self.old.advertised (session, sender)) self.old.advertised } }
+    {
+        let Ok(at) = search(self.rows.as_slice(), &(session, sender)) else {
+            return false;
+        };
+        self.rows[at].advertised = true;
+        true
+    }
+
+    /// Takes a sender out, and that it is advertised. False exactly where there is no such local sender; nothing changes then.
     pub fn remove(&mut self, session: Session, sender: Sender) -> bool
-        ensures was { result ≡ has self.old (session, sender) }
-        ensures gone { self.new ≡ without self.old (session, sender) }
+        ensures was { result ≡ has self.old.tspecs (session, sender) }
+        ensures gone { self.new
+            ≡ cond result (record { tspecs = without self.old.tspecs (session, sender); advertised = without self.old.advertised (session, sender) }) self.old }
     {
         let Ok(at) = search(self.rows.as_slice(), &(session, sender)) else {
             return false;

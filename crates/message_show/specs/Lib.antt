@@ -1,5 +1,4 @@
 pub mod PartTexts
-pub mod AdspecText
 pub mod MessageText
 pub mod RefusalText
 pub mod Readings

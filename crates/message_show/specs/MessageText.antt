@@ -12,7 +12,8 @@ use Rattle.rsvp_messages.specs.declared.message.ResvErrMsg.{ResvErrMsg}
 use Rattle.rsvp_messages.specs.declared.message.ResvMsg.{ResvMsg}
 use Rattle.rsvp_messages.specs.declared.message.ResvTearMsg.{ResvTearMsg}
 use Rattle.value_texts.specs.Texts.{sender_text, session_text}
-use Rattle.message_show.specs.AdspecText.{adspec_text}
+use Rattle.value_texts.specs.AdspecText.{adspec_words}
+use Rattle.rsvp_objects.specs.ObjectFields.declared.adspec.Adspec.{Adspec}
 use Rattle.message_show.specs.PartTexts.{where_set, where_there, hop_text, period_text, confirm_text, error_text, offer_text, ask_text, tear_text, blame_text}
 
 -- sender SENDER FLOW
@@ -22,6 +23,10 @@ path_sender_text e = codes " sender" ++ offer_text e
 -- sender SENDER
 unfoldable pub only_sender_text : Sender → List ℕ
 only_sender_text s = codes " sender " ++ sender_text s
+
+-- adspec, and its words
+unfoldable pub adspec_text : Adspec → List ℕ
+adspec_text a = codes " adspec" ++ adspec_words a
 
 unfoldable pub path_text : PathMsg → List ℕ
 path_text m = codes "Path " ++ session_text m.session ++ where_set m.police (codes " police") ++ hop_text m.hop ++ period_text m.period

@@ -7,7 +7,6 @@
 //! have too, and on `script_words` for how a bad line is told.
 #![tactic(auto)]
 
-mod adspec;
 mod advice;
 pub mod laws;
 mod lines;

@@ -1,13 +1,11 @@
 //! The lines of messages.
 ghost use Rattle.std.specs.Prelude.{◌≡◌, ◌≤◌, ◌<◌, ◌++◌, codes, length, OnOk, OnErr, vec_capacity};
 ghost use Rattle.std.specs.Io.{StartsWith};
-ghost use Rattle.message_show.specs.AdspecText.{adspec_text};
 ghost use Rattle.message_show.specs.PartTexts.{confirm_text, hop_text, period_text, where_set, where_there};
 ghost use Rattle.value_texts.specs.Texts.{session_text};
 ghost use Rattle.message_show.specs.MessageText.{message_text, only_sender_text, path_err_text, path_sender_text, path_tear_text, path_text, resv_conf_text, resv_err_text, resv_tear_text};
-ghost use Rattle.message_show.specs.MessageText.{resv_text, words_text};
+ghost use Rattle.message_show.specs.MessageText.{adspec_text, resv_text, words_text};
 
-use crate::adspec::put_adspec;
 use crate::parts::{
     put_ask, put_blame, put_confirm, put_error, put_hop, put_offer, put_period, put_tear, put_where,
 };
@@ -16,7 +14,7 @@ use rsvp_messages::{
     Message, PathErrMsg, PathMsg, PathTearMsg, ResvConfMsg, ResvErrMsg, ResvMsg, ResvTearMsg,
 };
 use rsvp_objects::Adspec;
-use value_texts::{put, put_sender, put_session};
+use value_texts::{put, put_adspec_words, put_sender, put_session};
 
 #[tactic(auto, unfolding(crate::specs::MessageText::path_sender_text))]
 fn put_path_sender(out: &mut Vec<u8>, sender: Option<(Sender, Flow)>) -> Result<(), NoMemory>
@@ -44,6 +42,18 @@ fn put_only_sender(out: &mut Vec<u8>, sender: Option<Sender>) -> Result<(), NoMe
     };
     put(out, b" sender ")?;
     put_sender(out, sender)
+}
+
+// Appends an ADSPEC: that it is one, and its words.
+#[tactic(auto, unfolding(crate::specs::MessageText::adspec_text))]
+fn put_adspec(out: &mut Vec<u8>, adspec: &Adspec) -> Result<(), NoMemory>
+    ensures text { OnOk result (out.new.items ≡ out.old.items ++ adspec_text adspec.now) }
+    ensures front { OnErr result (StartsWith out.new.items out.old.items) }
+    ensures full { OnErr result (vec_capacity out.old < length (out.old.items ++ adspec_text adspec.now)) }
+    ensures kept { vec_capacity out.old ≤ vec_capacity out.new }
+{
+    put(out, b" adspec")?;
+    put_adspec_words(out, adspec)
 }
 
 fn put_advert(out: &mut Vec<u8>, adspec: &Option<Adspec>) -> Result<(), NoMemory>

@@ -465,6 +465,7 @@ so_far_through o bounds same rs calm t =
       net = g.0.same.net ∙ same.net;
       trees = g.0.same.trees ∙ same.trees;
       senders = λ n. g.0.same.senders n ∙ same.senders n;
+      advertised = λ n. g.0.same.advertised n ∙ same.advertised n;
       locals = g.0.same.locals
           ∙ same.locals;
     }) g.1) 0 rs o

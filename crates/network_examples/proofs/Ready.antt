@@ -49,13 +49,13 @@ blaming_bounds = each_step_keeps_a_world_within_bounds 7500 asking_world (Inject
 
 -- ---- the same is asked
 pub asking_same : IsSameNet asking_world asking_world
-asking_same = record { net = refl; trees = refl; senders = λ n. refl; locals = refl }
+asking_same = record { net = refl; trees = refl; senders = λ n. refl; advertised = λ n. refl; locals = refl }
 
 stray_same : IsSameNet asking_world stray_world
-stray_same = record { net = refl; trees = refl; senders = λ n. refl; locals = refl }
+stray_same = record { net = refl; trees = refl; senders = λ n. refl; advertised = λ n. refl; locals = refl }
 
 blaming_same : IsSameNet asking_world blaming_world
-blaming_same = record { net = refl; trees = refl; senders = λ n. refl; locals = refl }
+blaming_same = record { net = refl; trees = refl; senders = λ n. refl; advertised = λ n. refl; locals = refl }
 
 ready : (k : ℕ) (o : World) → AreBounds 7500 o → IsSameNet asking_world o → in_rounds 7500 is_so_far (rounds_of 7500 k o) o ≡ true → IsReady k o
 ready k o bounds same t = record {

@@ -15,7 +15,7 @@ use Rattle.tree_model.specs.Networks.{Net, iface_of, peers}
 use Rattle.tree_model.proofs.Following.{addr_same, addr_itself}
 use Rattle.network_model.specs.Laws.{ADeliveryChangesOneNode, APieceChangesEveryNode, is_still, TheRestChangeNoNode, WhereASendGoes, WhatIsSentIsCopied}
 use Rattle.network_model.specs.Links.{is_group, or_all, ends_toward, goes_to, all_copies}
-use Rattle.network_model.specs.Steps.{Step, Piece, Deliver, Lose, Copy, At, ClearAt, Trace, Report, Flags, Inject, Reroute, input_at, still, outcome_of, outcome, facts_from, sent_from, step}
+use Rattle.network_model.specs.Steps.{Step, Piece, Deliver, Lose, Copy, At, ClearAt, Trace, Report, Flags, Adverts, Inject, Reroute, input_at, still, outcome_of, outcome, facts_from, sent_from, step}
 use Rattle.network_model.specs.Worlds.{Item, World, config_of}
 use Rattle.network_model.proofs.Quiet.{IsWaited, IsCame, input_found, input_came}
 use Rattle.network_model.proofs.Stepping.{copies_found, copies_made, facts_after_found, facts_after_made, sent_found, sent_made}
@@ -72,6 +72,7 @@ nothing_comes (ClearAt m) w n e = absurd (cc)
 nothing_comes (Trace on) w n e = refl
 nothing_comes (Report r) w n e = refl
 nothing_comes Flags w n e = refl
+nothing_comes Adverts w n e = refl
 nothing_comes (Inject t dst a) w n e = refl
 nothing_comes (Reroute g s hops) w n e = absurd (cc)
 

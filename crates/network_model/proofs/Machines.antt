@@ -7,7 +7,7 @@ use Rattle.rsvp_base.specs.Members.{In}
 use Rattle.rsvp_base.proofs.Members.{in_append, in_each}
 use Rattle.calm_rounds.specs.Machine.{IsClocked, IsStamped, items_of}
 use Rattle.calm_rounds.proofs.Renewing.{in_option}
-use Rattle.network_model.specs.Steps.{Step, Piece, Deliver, Lose, Copy, At, ClearAt, Trace, Report, Flags, Inject, Reroute, is_calm, is_quiet, ms_of, arrived, rest, sent, step, machine}
+use Rattle.network_model.specs.Steps.{Step, Piece, Deliver, Lose, Copy, At, ClearAt, Trace, Report, Flags, Adverts, Inject, Reroute, is_calm, is_quiet, ms_of, arrived, rest, sent, step, machine}
 use Rattle.network_model.specs.Worlds.{Item, World}
 use Rattle.network_model.proofs.Changing.{what_is_sent_is_copied}
 use Rattle.rsvp_base.proofs.Fronts.{got_in}
@@ -38,6 +38,7 @@ in_rest (ClearAt n) w x q i = i
 in_rest (Trace on) w x q i = i
 in_rest (Report e) w x q i = i
 in_rest Flags w x q i = i
+in_rest Adverts w x q i = i
 in_rest (Inject e dst a) w x q i = absurd (cc)
 in_rest (Reroute g s hops) w x q i = i
 

@@ -7,7 +7,7 @@ use Rattle.router_examples.specs.RouterRules.Inputs.{Input, Wait, Came}
 use Rattle.router_examples.specs.RouterRules.Rule.{Outcome, rule}
 use Rattle.tree_model.specs.declared.hops.End.{End}
 use Rattle.tree_model.specs.Networks.{Net, iface_of}
-use Rattle.network_model.specs.Steps.{Step, Piece, Deliver, Lose, Copy, At, ClearAt, Trace, Report, Flags, Inject, Reroute, is_quiet, ms_of, arrived, net_after, at_node, came_by_end, came}
+use Rattle.network_model.specs.Steps.{Step, Piece, Deliver, Lose, Copy, At, ClearAt, Trace, Report, Flags, Adverts, Inject, Reroute, is_quiet, ms_of, arrived, net_after, at_node, came_by_end, came}
 use Rattle.network_model.specs.Steps.{input_at, word_for, still, outcome_of, outcome}
 use Rattle.network_model.specs.Worlds.{Item, World, config_of}
 
@@ -21,6 +21,7 @@ net_quiet (ClearAt n) w q = refl
 net_quiet (Trace on) w q = refl
 net_quiet (Report e) w q = refl
 net_quiet Flags w q = refl
+net_quiet Adverts w q = refl
 net_quiet (Inject e dst a) w q = refl
 net_quiet (Reroute g s hops) w q = absurd (cc)
 
@@ -64,6 +65,7 @@ input_found (ClearAt m) w n i q e = absurd (cc)
 input_found (Trace on) w n i q e = absurd (cc)
 input_found (Report r) w n i q e = absurd (cc)
 input_found Flags w n i q e = absurd (cc)
+input_found Adverts w n i q e = absurd (cc)
 input_found (Inject t dst a) w n i q e = absurd (cc)
 input_found (Reroute g s hops) w n i q e = absurd (cc)
 
@@ -78,6 +80,7 @@ arrival_is (ClearAt n) w x e = absurd (cc)
 arrival_is (Trace on) w x e = absurd (cc)
 arrival_is (Report r) w x e = absurd (cc)
 arrival_is Flags w x e = absurd (cc)
+arrival_is Adverts w x e = absurd (cc)
 arrival_is (Inject t dst a) w x e = absurd (cc)
 arrival_is (Reroute g s hops) w x e = absurd (cc)
 

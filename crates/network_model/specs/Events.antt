@@ -6,7 +6,7 @@ use Rattle.rsvp_base.specs.declared.addr.Addr.{Addr}
 use Rattle.calm_rounds.specs.Machine.{run}
 use Rattle.router_examples.specs.RouterRules.Inputs.{Arrival, Local}
 use Rattle.tree_model.specs.declared.hops.LinkHop.{LinkHop}
-use Rattle.network_model.specs.Steps.{Step, Piece, Deliver, Lose, Copy, At, ClearAt, Trace, Report, Flags, Inject, Reroute, step, machine}
+use Rattle.network_model.specs.Steps.{Step, Piece, Deliver, Lose, Copy, At, ClearAt, Trace, Report, Flags, Adverts, Inject, Reroute, step, machine}
 use Rattle.network_model.specs.Worlds.{World}
 
 -- Places count from 1. A datagram that is injected is what its bytes spell, or why they spell nothing.
@@ -25,6 +25,8 @@ pub data Event : Type 0 where
   -- of one end, or of all
   Reports : Option ℕ → Event
   ReportsFlags : Event
+  -- what the paths offer that came by each end
+  ReportsAdverts : Event
   Injects : ℕ → Addr → Arrival → Event
   Reroutes : Addr → Addr → List LinkHop → Event
 
@@ -81,6 +83,7 @@ module _ (q : ℕ) where
   steps_of (Traces on) w = Trace on ∷ []
   steps_of (Reports e) w = Report e ∷ []
   steps_of ReportsFlags w = Flags ∷ []
+  steps_of ReportsAdverts w = Adverts ∷ []
   steps_of (Injects e dst a) w = Inject e dst a ∷ []
   steps_of (Reroutes g s hops) w = Reroute g s hops ∷ []
 

@@ -2,9 +2,9 @@
 use Rattle.std.specs.Prelude.{ℕ, List, ◌≤◌, length}
 use Rattle.router_examples.specs.RsvpMessages.declared.fault.MsgErr.{MsgErr}
 use Rattle.router_examples.specs.RsvpMessages.declared.message.Message.{Message}
-use Rattle.router_examples.specs.RouterRules.Inputs.{Arrival, Spelt, Unspelt, Local, SendAs, DropAs, WantAs, QuitAll}
+use Rattle.router_examples.specs.RouterRules.Inputs.{Arrival, Spelt, Unspelt, Local, SendAs, DropAs, AdvertAs, WantAs, QuitAll}
 use Rattle.router_examples.specs.RouterRules.Steps.{IsFitCall}
-use Rattle.network_model.specs.Events.{Event as AnEvent, AtNode, Waits, Pass, DeliverAt, LoseAt, CopyAt, ClearNode, Rounds, Traces, Reports, ReportsFlags, Injects, Reroutes}
+use Rattle.network_model.specs.Events.{Event as AnEvent, AtNode, Waits, Pass, DeliverAt, LoseAt, CopyAt, ClearNode, Rounds, Traces, Reports, ReportsFlags, ReportsAdverts, Injects, Reroutes}
 use Rattle.network_model.specs.declared.event.Event.{Event}
 use Rattle.network_model.specs.declared.event.Event.TheVariants as event
 use Rattle.network_model.specs.declared.local_call.LocalCall.{LocalCall}
@@ -12,6 +12,7 @@ use Rattle.network_model.specs.declared.local_call.LocalCall.TheVariants as call
 
 abbrev pub call_of : LocalCall → Local
 call_of (call.Send session sender flow) = SendAs session sender flow
+call_of (call.Advert session sender) = AdvertAs session sender
 call_of (call.Gone session sender) = DropAs session sender
 call_of (call.Want session style senders flow confirm) = WantAs session style senders flow confirm
 call_of (call.Quit session) = QuitAll session
@@ -29,6 +30,7 @@ event_with a (event.Rounds times) = Rounds times
 event_with a (event.Trace on) = Traces on
 event_with a (event.Report end) = Reports end
 event_with a event.Flags = ReportsFlags
+event_with a event.Adverts = ReportsAdverts
 event_with a (event.Inject end dst bytes) = Injects end dst a
 event_with a (event.Reroute group source hops) = Reroutes group source hops.items
 

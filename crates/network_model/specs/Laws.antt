@@ -11,7 +11,7 @@ use Rattle.router_examples.specs.RouterRules.Rule.{rule}
 use Rattle.tree_model.specs.declared.hops.End.{End}
 use Rattle.tree_model.specs.Networks.{Net, end_at, iface_of, link_of, peers}
 use Rattle.network_model.specs.Links.{is_group, goes_to, copy_to}
-use Rattle.network_model.specs.Steps.{Step, Piece, Deliver, Lose, Copy, Trace, Report, Flags, Inject, word_for, outcome, sent, step}
+use Rattle.network_model.specs.Steps.{Step, Piece, Deliver, Lose, Copy, Trace, Report, Flags, Adverts, Inject, word_for, outcome, sent, step}
 use Rattle.network_model.specs.Worlds.{Item, World, config_of}
 
 abbrev pub config_in : ℕ → World → ℕ → NodeConfig
@@ -36,6 +36,7 @@ is_still (Copy k) = true
 is_still (Trace on) = true
 is_still (Report e) = true
 is_still Flags = true
+is_still Adverts = true
 is_still (Inject e dst a) = true
 is_still _ = false
 

@@ -10,6 +10,7 @@ use Rattle.router_examples.specs.RouterRules.declared.answers.Heard.{Heard}
 use Rattle.router_examples.specs.RouterRules.declared.answers.Heard.TheVariants as heard
 use Rattle.router_examples.specs.RouterRules.declared.answers.Why.{Why}
 use Rattle.router_examples.specs.RouterRules.declared.answers.Why.TheVariants as why
+use Rattle.router_examples.specs.RouterRules.Adverts.{adverts_at}
 use Rattle.router_examples.specs.RouterRules.Books.{book}
 use Rattle.router_examples.specs.RouterRules.Facts.{Facts, no_facts}
 use Rattle.router_examples.specs.RouterRules.Flags.{entries_at}
@@ -20,8 +21,8 @@ use Rattle.tree_model.specs.declared.hops.End.{End}
 use Rattle.tree_model.specs.Networks.{Net, iface_of}
 use Rattle.tree_model.specs.Trees.{trees_of}
 use Rattle.network_model.specs.Events.{Event, all_steps}
-use Rattle.network_model.specs.Steps.{Step, Deliver, Report, Flags, step, outcome, machine}
-use Rattle.network_model.specs.Texts.{table_text, flags_text}
+use Rattle.network_model.specs.Steps.{Step, Deliver, Report, Flags, Adverts, step, outcome, machine}
+use Rattle.network_model.specs.Texts.{adverts_text, flags_text, table_text}
 use Rattle.network_model.specs.Worlds.{Item, World, config_of}
 
 -- what a script says: the network, the names of its ends, what is left over at which nodes, and what happens
@@ -109,6 +110,10 @@ plain_report p name e iface f = table_text name e.iface.capacity (book f iface)
 abbrev pub flags_report : NodeConfig → List ℕ → End → ℕ → Facts → List ℕ
 flags_report p name e iface f = flags_text name e.iface.capacity (entries_at p f iface)
 
+-- what the paths offer that came by an end
+abbrev pub adverts_report : NodeConfig → List ℕ → End → ℕ → Facts → List ℕ
+adverts_report p name e iface f = adverts_text name (adverts_at f iface)
+
 -- of what is there
 abbrev pub with_parts : (List ℕ → End → Facts → List ℕ) → Option (List ℕ) → Option End → Option Facts → List ℕ
 with_parts t None e f = []
@@ -140,6 +145,7 @@ module _ (q : ℕ) (names : List (List ℕ)) where
   written (Report None) w = whole_report plain_report w
   written (Report (Some e)) w = end_report plain_report w e
   written Flags w = whole_report flags_report w
+  written Adverts w = whole_report adverts_report w
   written _ w = []
 
   abbrev pub text_of : List Step → World → List ℕ

@@ -40,6 +40,7 @@ pub data Step : Type 0 where
   -- of one end, or of all
   Report : Option ℕ → Step
   Flags : Step
+  Adverts : Step
   -- to an end, with a destination
   Inject : ℕ → Addr → Arrival → Step
   -- these hops are from now on the tree of the group and source
@@ -112,6 +113,7 @@ input_at (ClearAt m) w n = at_node m Clear n
 input_at (Trace on) w n = None
 input_at (Report e) w n = None
 input_at Flags w n = None
+input_at Adverts w n = None
 input_at (Inject e dst a) w n = None
 input_at (Reroute g s hops) w n = Some Moved
 
@@ -126,6 +128,7 @@ rest (ClearAt n) w = w.flight
 rest (Trace on) w = w.flight
 rest (Report e) w = w.flight
 rest Flags w = w.flight
+rest Adverts w = w.flight
 rest (Inject e dst a) w = w.flight ++ (record { end = e; dst = dst; arrival = a; born = w.made }) ∷ []
 rest (Reroute g s hops) w = w.flight
 

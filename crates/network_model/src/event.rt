@@ -51,6 +51,8 @@ pub enum Event {
     },
     /// The books of all ends are reported with their policing flags.
     Flags,
+    /// What the paths offer is reported, of all ends: each path that came there, and was told of.
+    Adverts,
     /// Bytes are put in flight to an end, with a destination.
     Inject {
         end: u16,

@@ -11,6 +11,11 @@ pub enum LocalCall {
         sender: Sender,
         flow: Flow,
     },
+    /// The node of a sender tells what its path offers, until it ends.
+    Advert {
+        session: Session,
+        sender: Sender,
+    },
     /// A sender ends.
     Gone {
         session: Session,

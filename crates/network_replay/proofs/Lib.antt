@@ -17,4 +17,5 @@ pub mod Delivered
 pub mod Moves
 pub mod Opened
 pub mod Reports
+pub mod Offers
 pub mod Reported

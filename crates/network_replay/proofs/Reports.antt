@@ -47,18 +47,18 @@ sum_from : {A B : Type 0} (f : A → B) (g : B → ℕ) (xs : List A) (n : ℕ) 
 sum_from f g [] n = refl
 sum_from f g (x ∷ xs) n = sum_from f g xs (n + g (f x))
 
-drop_get : {A : Type 0} (xs : List A) (k : ℕ) (x : A) → slice_get xs k ≡ Some x → drop k xs ≡ x ∷ drop (suc k) xs
+pub drop_get : {A : Type 0} (xs : List A) (k : ℕ) (x : A) → slice_get xs k ≡ Some x → drop k xs ≡ x ∷ drop (suc k) xs
 drop_get [] k x e = absurd (cc)
 drop_get (y ∷ ys) zero x e = let same : y ≡ x = (let h : Some y ≡ Some x = e in cc) in ap (λ z. z ∷ ys) same
 drop_get (y ∷ ys) (suc k) x e = drop_get ys k x e
 
-drop_past : {A : Type 0} (xs : List A) (k : ℕ) → slice_get xs k ≡ None → drop k xs ≡ []
+pub drop_past : {A : Type 0} (xs : List A) (k : ℕ) → slice_get xs k ≡ None → drop k xs ≡ []
 drop_past [] zero e = refl
 drop_past [] (suc k) e = refl
 drop_past (y ∷ ys) zero e = absurd (let h : Some y ≡ None = e in cc)
 drop_past (y ∷ ys) (suc k) e = drop_past ys k e
 
-drop_all : {A : Type 0} (xs : List A) (k : ℕ) → length xs ≤ k → drop k xs ≡ []
+pub drop_all : {A : Type 0} (xs : List A) (k : ℕ) → length xs ≤ k → drop k xs ≡ []
 drop_all [] zero le = refl
 drop_all [] (suc k) le = refl
 drop_all (y ∷ ys) zero le = absurd (omega arith)

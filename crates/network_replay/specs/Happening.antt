@@ -27,5 +27,6 @@ HasRoom net _ = Unit {0}
 abbrev pub takes_memory : Bool → Event → Bool
 takes_memory trace (event.Report end) = true
 takes_memory trace event.Flags = true
+takes_memory trace event.Adverts = true
 takes_memory trace (event.Reroute group source hops) = true
 takes_memory trace _ = trace

@@ -7,6 +7,7 @@
 //! `network_flight`, `network_model` and `router_rules`.
 #![tactic(auto)]
 
+mod adverts;
 mod mail;
 mod moving;
 mod no_tree;

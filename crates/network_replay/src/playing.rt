@@ -64,6 +64,7 @@ impl<R: Router + Drop> World<R> {
             Event::Trace { on } => Ok(self.set_trace(*on)),
             Event::Report { end } => Ok(self.write_report(*end, out)),
             Event::Flags => Ok(self.write_flags(out)),
+            Event::Adverts => Ok(self.write_adverts(out)),
             Event::Inject { end, dst, bytes } => Ok(self.inject(*end, *dst, bytes.as_slice())),
             Event::Reroute {
                 group,

@@ -64,8 +64,8 @@ pub(crate) fn put_end<R: Router>(
     put_node(line, name.bytes(), capacity, node, iface, flags, out)
 }
 
-// How many ends there are.
-fn count_of(wires: &Wires) -> u16
+/// How many ends there are.
+pub(crate) fn count_of(wires: &Wires) -> u16
     ensures { result ≡ length wires.now.ends }
 {
     wires.routing().ends().len() as u16
@@ -154,8 +154,8 @@ fn say_entry(
     }
 }
 
-// Appends a line in one piece. `NoMemory`: nothing is appended.
-fn say_line(line: &Vec<u8>, out: &mut Vec<u8>) -> Result<(), NoMemory>
+/// Appends a line in one piece. `NoMemory`: nothing is appended.
+pub(crate) fn say_line(line: &Vec<u8>, out: &mut Vec<u8>) -> Result<(), NoMemory>
     ensures { Says result out.old.items out.new.items line.now.items }
 {
     put_whole(out, line.as_slice())

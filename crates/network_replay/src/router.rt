@@ -3,6 +3,8 @@ ghost use Rattle.std.specs.Prelude.{◌≡◌, [], ◌<◌, ◌≤◌, ◌+◌, 
 ghost use Rattle.router_rules.specs.Inputs.{Call, Came, Clear, Moved, Spelt, Unspelt, Wait};
 ghost use Rattle.router_rules.specs.Rule.{facts_after, heard_after, refusal_of_call, sent_after};
 ghost use Rattle.rsvp_messages.specs.Proper.{IsProper};
+ghost use Rattle.std.specs.Option.{option_map};
+ghost use Rattle.router_rules.specs.Adverts.{adverts_of};
 ghost use Rattle.router_rules.specs.Books.{book};
 ghost use Rattle.router_rules.specs.Flags.{entries_of};
 ghost use Rattle.style_rules.specs.Lines.{held};
@@ -13,8 +15,9 @@ ghost use Rattle.network_replay.specs.Routed.{trees_in};
 
 use network_model::LocalCall;
 use router_rules::{Entry, Heard, LocalErr, Outbox, Route};
-use rsvp_base::Addr;
+use rsvp_base::{Addr, Sender, Session};
 use rsvp_messages::{Message, MsgErr};
+use rsvp_objects::Adspec;
 
 /// A router. Each call is the rule of a router (`router_rules`) for its input: the facts after it, what became of a datagram, and
 /// what is sent, which is posted in its outbox in order. A router has no clock. It keeps how much is left of each lifetime, and
@@ -90,4 +93,10 @@ pub trait Router {
     fn entry(&self, iface: u8, k: usize) -> Option<Entry>
         ensures entry { (c : ℕ) → result ≡ slice_get (entries_of (seen.place self.now) (seen.facts self.now c) iface) k }
         ensures few { (c : ℕ) → length (entries_of (seen.place self.now) (seen.facts self.now c) iface) ≤ 3072 };
+
+    /// The k-th path by session and sender, from 0, of those that came by an interface and keep an ADSPEC, with that ADSPEC. `None`
+    /// exactly where k is not below their number, which is at most 512.
+    fn advert_at(&self, iface: u8, k: usize) -> Option<(Session, Sender, Adspec)>
+        ensures advert { (c : ℕ) → option_map (λ a. ((a.0, a.1), a.2)) result ≡ slice_get (adverts_of (seen.facts self.now c) iface) k }
+        ensures few { (c : ℕ) → length (adverts_of (seen.facts self.now c) iface) ≤ 512 };
 }

@@ -3,8 +3,8 @@ ghost use Rattle.std.specs.Prelude.{◌≡◌, ◌↔◌, ◌<◌, ◌≤◌, �
 ghost use Rattle.network_flight.specs.Parcels.{Parcel as AParcel};
 ghost use Rattle.network_replay.specs.declared.world_err.WorldErr.TheVariants as refusal;
 ghost use Rattle.network_flight.specs.Events.{a_round, half, pass, passes, rounds};
-ghost use Rattle.network_flight.specs.Steps.{At, ClearAt, Copy, Deliver, Flags, Inject, Lose, Piece, Report, Reroute, Trace, rerouted};
-ghost use Rattle.network_flight.specs.Runs.{Plan, first_world};
+ghost use Rattle.network_flight.specs.Steps.{Adverts, At, ClearAt, Copy, Deliver, Flags, Inject, Lose, Piece, Report, Reroute, Trace, rerouted};
+ghost use Rattle.network_flight.specs.Runs.{Plan, adverts_report, first_world, whole_report};
 ghost use Rattle.network_flight.specs.Worlds.{World as AWorld};
 ghost use Rattle.tree_model.specs.Networks.{iface_of};
 ghost use Rattle.tree_model.specs.Trees.{trees_of};
@@ -20,6 +20,7 @@ ghost use Rattle.network_replay.specs.Reporting.{Says, report_said};
 ghost use Rattle.network_replay.specs.Running.{IsSame, Makes, refusal_of};
 ghost use Rattle.network_replay.specs.Sights.{Shows, ShowsRun, Tells, Waited, delivery, heard_there, rounds_sights, sights};
 
+use crate::adverts::put_adverts;
 use crate::mail::Mail;
 use crate::moving::{move_all, routes_of};
 use crate::report::{put_all, put_end};
@@ -205,6 +206,21 @@ impl<R: Router + Drop> World<R> {
         }
     }
 
+    /// Appends what the paths offer that came by each end. `NoMemory`: a prefix of it is appended.
+    pub fn adverts(&self, out: &mut Vec<u8>) -> Result<(), NoMemory>
+        ensures { (q : ℕ) (w : AWorld) → Agrees R.seen q self.now w → Says result out.old.items out.new.items (whole_report q self.now.names adverts_report w) }
+    {
+        let mut line = Vec::new(self.alloc);
+        let wires = self.mail.wires();
+        put_adverts(
+            &mut line,
+            self.names.as_slice(),
+            wires,
+            self.nodes.as_slice(),
+            out,
+        )
+    }
+
     // Reports the books, of an end or of all.
     pub(crate) fn write_report(
         &mut self,
@@ -233,6 +249,22 @@ impl<R: Router + Drop> World<R> {
         ensures refused { self.new.refused ≡ refusal_of result }
     {
         match self.report(None, true, out) {
+            Ok(()) => Ok(()),
+            Err(_) => {
+                self.refused = Some(WorldErr::NoMemory);
+                Err(WorldErr::NoMemory)
+            }
+        }
+    }
+
+    // Reports what the paths offer that came by each end.
+    pub(crate) fn write_adverts(&mut self, out: &mut Vec<u8>) -> Result<(), WorldErr>
+        requires { self.old.refused ≡ None }
+        ensures made { Makes R.seen self.old result out.old.items out.new.items self.new (λ q w. Adverts ∷ []) }
+        ensures same { IsSame self.old self.new }
+        ensures refused { self.new.refused ≡ refusal_of result }
+    {
+        match self.adverts(out) {
             Ok(()) => Ok(()),
             Err(_) => {
                 self.refused = Some(WorldErr::NoMemory);

@@ -1,5 +1,5 @@
 -- What is offered of a sender whose path is kept anew.
-use Rattle.std.specs.Prelude.{◌≡◌, ℕ, false, Option, Some, None}
+use Rattle.std.specs.Prelude.{◌≡◌, ℕ, Bool, false, Option, Some, None}
 use Rattle.std.specs.Option.{option_map}
 use Rattle.object_fields.specs.declared.adspec.Adspec.{Adspec}
 use Rattle.rsvp_base.specs.TokenBucket.{TokenBucket}
@@ -9,9 +9,13 @@ use Rattle.router_rules.specs.Sends.{is_new_offer}
 use Rattle.path_sends.specs.declared.renewal.Renewal.{Renewal}
 use Rattle.path_sends.specs.Offering.{as_offer, passed_offer}
 
--- by what it announces as a local sender, else by its path: the flow, and the ADSPEC that it keeps
-abbrev pub offer_by : Option TokenBucket → TokenBucket → Option Adspec → Offer
-offer_by (Some own) tspec kept = own_offer own
+-- of a local sender: whether it is advertised, and what it announces
+abbrev pub own_of : Bool → Option TokenBucket → Option (Bool × TokenBucket)
+own_of advertised tspec = option_map (λ t. (advertised, t)) tspec
+
+-- by what it announces as a local sender, and whether it is advertised, else by its path: the flow, and the ADSPEC that it keeps
+abbrev pub offer_by : Option (Bool × TokenBucket) → TokenBucket → Option Adspec → Offer
+offer_by (Some own) tspec kept = own_offer own.0 own.1
 offer_by None tspec kept = passed_offer tspec kept
 
 -- what was offered and what is offered now; without them the one is new beside the other at no interface

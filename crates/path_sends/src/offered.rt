@@ -3,7 +3,7 @@ ghost use Rattle.std.specs.Prelude.{◌≡◌, ◌&&◌, ℕ, Some, true, false,
 ghost use Rattle.std.specs.Option.{option_map};
 ghost use Rattle.adspec_path.specs.Same.{same_told};
 ghost use Rattle.router_rules.specs.NodeConfig.{NodeConfig};
-ghost use Rattle.router_rules.specs.Offers.{advert_by, advert_of, own_offer};
+ghost use Rattle.router_rules.specs.Offers.{advert_by, advert_of, own_advert, own_offer};
 ghost use Rattle.router_rules.specs.Sends.{is_new_offer, same_flow};
 ghost use Rattle.router_rules.specs.declared.advert.Advert.TheVariants.{Passes};
 ghost use Rattle.path_sends.specs.Offering.{as_offer, passed_offer};
@@ -23,14 +23,14 @@ pub struct Offered {
 }
 
 impl Offered {
-    /// What is offered of a local sender.
-    pub fn own(tspec: Flow) -> Offered
-        ensures { as_offer result ≡ own_offer tspec }
+    /// What is offered of a local sender, by what it announces and whether it is advertised.
+    pub fn own(tspec: Flow, advertised: bool) -> Offered
+        ensures { as_offer result ≡ own_offer advertised tspec }
     {
         Offered {
             tspec,
             local: true,
-            advert: Advert::Silent,
+            advert: own_advert(advertised),
         }
     }
 
@@ -105,6 +105,16 @@ fn is_passed(kept: &Adspec, advert: &Advert) -> bool
         Advert::Begins => false,
         Advert::Passes(other) => same_adspec(kept, other),
     }
+}
+
+// What is told of a local sender: it begins here where the sender is advertised.
+fn own_advert(advertised: bool) -> Advert
+    ensures { result ≡ own_advert advertised }
+{
+    if advertised {
+        return Advert::Begins;
+    }
+    Advert::Silent
 }
 
 // What is told of a path that keeps this ADSPEC.

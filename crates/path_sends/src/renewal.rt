@@ -1,6 +1,7 @@
 //! A path that is kept anew: where what is offered of its sender is new.
-ghost use Rattle.std.specs.Prelude.{◌≡◌, Some, fold};
+ghost use Rattle.std.specs.Prelude.{◌≡◌, Bool, Option, Some, fold, is_some};
 ghost use Rattle.laws_sends.specs.Told.{told_new};
+ghost use Rattle.rsvp_base.specs.TokenBucket.{TokenBucket};
 ghost use Rattle.path_sends.specs.Renewing.{AreNews, offer_by};
 ghost use Rattle.router_rules.specs.Offers.{Offer};
 
@@ -21,17 +22,12 @@ pub struct Renewal {
 }
 
 impl Renewal {
-    /// Of a sender that has this path and is to have one with this flow and this ADSPEC, by what it announces as a local sender.
-    /// `None`: what is offered is new at no interface.
-    pub fn of(
-        own: &Option<Flow>,
-        was: &PathFact,
-        tspec: Flow,
-        kept: &Option<Adspec>,
-    ) -> Option<Renewal>
-        ensures { AreNews result (offer_by own.now was.now.tspec was.now.adspec) (offer_by own.now tspec kept.now) }
+    /// Of a sender, local or not, that has this path and is to have one with this flow and this ADSPEC. `None`: what is offered is
+    /// new at no interface.
+    pub fn of(local: bool, was: &PathFact, tspec: Flow, kept: &Option<Adspec>) -> Option<Renewal>
+        ensures { (own : Option (Bool × TokenBucket)) → is_some own ≡ local → AreNews result (offer_by own was.now.tspec was.now.adspec) (offer_by own tspec kept.now) }
     {
-        if own.is_some() {
+        if local {
             return None;
         }
         if is_same_flow(&tspec, &was.tspec) && same_told(kept, &was.adspec) {

@@ -59,13 +59,13 @@ module _ (c : ℕ) (n : State) (k : SenderKey) where
       by None = refl
       by (Some e) = refl
 
-  pub own_seen : (tspec : TokenBucket) → get n.senders k ≡ Some tspec → Some (own_offer tspec) ≡ offered (facts_of c n) k
-  own_seen tspec e = sym (ap (λ w. or_else (option_map own_offer w) (option_map path_offer (get (facts_of c n).paths k))) e)
+  pub own_seen : (tspec : TokenBucket) (advertised : Bool) → get n.senders k ≡ Some tspec → has n.advertised k ≡ advertised → Some (own_offer advertised tspec) ≡ offered (facts_of c n) k
+  own_seen tspec advertised e f = sym (λ i. or_else (option_map (own_offer (f i)) (e i)) (option_map path_offer (get (facts_of c n).paths k)))
 
   pub path_seen : get n.senders k ≡ None → (w : Option PathFact) → w ≡ option_map (λ e. e.0) (get n.paths k) → option_map fact_offer w ≡ offered (facts_of c n) k
   path_seen none w e =
       ap (option_map fact_offer) e ∙ sym path_is
-      ∙ sym (ap (λ v. or_else (option_map own_offer v) (option_map path_offer (get (facts_of c n).paths k))) none)
+      ∙ sym (ap (λ v. or_else (option_map (own_offer (has n.advertised k)) v) (option_map path_offer (get (facts_of c n).paths k))) none)
 
 -- ---- previous hops, as the table of paths has them
 pub hops_are : (c : ℕ) (n : State) (s : Session) → hops_by (under sessions senders n.paths s).rows ≡ hops_in (facts_of c n) s

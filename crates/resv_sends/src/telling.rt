@@ -31,8 +31,8 @@ use sent_state::LaneTable;
 pub fn offered(tables: &Tables, session: Session, sender: Sender) -> Option<Offered>
     ensures { (c : ℕ) (said : Said) → option_map as_offer result ≡ offered (facts_of c (state_of tables.now said)) (session, sender) }
 {
-    if let Some(tspec) = tables.senders.find(session, sender) {
-        return Some(Offered::own(tspec));
+    if let Some(own) = tables.senders.find(session, sender) {
+        return Some(Offered::own(own.tspec, own.advertised));
     }
     match tables.paths.find(session, sender) {
         Some(fact) => Some(Offered::passed(fact.tspec, &fact.adspec)),

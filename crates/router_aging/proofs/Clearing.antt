@@ -25,6 +25,7 @@ append_none (x ∷ xs) = ap (λ ys. x ∷ ys) (append_none xs)
 pub clear_is_settled : ClearIsSettled
 clear_is_settled n c = λ i. record {
   senders = n.senders;
+  advertised = n.advertised;
   wants = n.wants;
   paths = paths i;
   resvs = record { wild = wild i; fixed = fixed i; shared = shared i };

@@ -112,7 +112,7 @@ kept_away st m k t q off = by (has (named_as st (known (facts_of 0 m) k.0)) (nam
     by false = stays (get t q) ∙ sym (get-changed line_keys (forgotten k.0 (name_of st k.1)) t q)
 
 pub gone_apart : (n m : State) (k : SenderKey) → IsChangedFor k n m → IsChangedFor k n (names_gone k m)
-gone_apart n m k ch = record { place = ch.place; senders = ch.senders; paths = ch.paths; wants = ch.wants; walls = ch.walls; resvs = same }
+gone_apart n m k ch = record { place = ch.place; senders = ch.senders; advertised = ch.advertised; paths = ch.paths; wants = ch.wants; walls = ch.walls; resvs = same }
   where
     same : (st : StyleKind) (q : LineKey) → eq_by_cmp sessions.cmp k.0 q.0 ≡ false → get (table_in st n) q ≡ get (table_in st (names_gone k m)) q
     same Wild q off = ch.resvs Wild q off ∙ kept_away Wild m k m.wild q off

@@ -1,5 +1,5 @@
 -- What is offered of a session's senders, by the tables.
-use Rattle.std.specs.Prelude.{◌≡◌, ℕ, true, cond, ◌||◌, ◌+◌, ◌<◌, List, [], ◌∷◌, ◌++◌, fold, length, take, is_some, Option, Some, None, refl}
+use Rattle.std.specs.Prelude.{◌≡◌, ℕ, Bool, true, cond, ◌||◌, ◌+◌, ◌<◌, List, [], ◌∷◌, ◌++◌, fold, length, take, is_some, Option, Some, None, refl}
 use Rattle.std.specs.List.{flat_map, list_any}
 use Rattle.std.specs.Option.{option_map}
 use Rattle.std.specs.Ordering.{eq_by_cmp}
@@ -23,6 +23,7 @@ use Rattle.rsvp_base.proofs.Members.{in_tied, tied_in}
 use Rattle.rsvp_base.proofs.SetLaws.{has-with_rows, same_set}
 use Rattle.rsvp_base.proofs.Tables.{get-changed, then_do}
 use Rattle.rsvp_base.proofs.UnderLaws.{get-under}
+use Rattle.local_state.specs.Rows.{Announced}
 use Rattle.path_state.specs.Paths.{path_keys}
 use Rattle.path_state.specs.declared.fact.PathFact.{PathFact}
 use Rattle.path_sends.specs.Offering.{fact_offer}
@@ -36,27 +37,27 @@ use Rattle.path_sends.specs.RouterState.State.{State, facts_of, path_at}
 use Rattle.laws_sends.specs.Told.{offered, paths_told, tears_told, told_gone}
 use Rattle.laws_sends.specs.Several.{gone_told, known_offers, offers_in, refreshed}
 use Rattle.laws_sends.proofs.Blocks.{known_at}
-use Rattle.router_aging.specs.Telling.{gone_by, kept_offer, known_names, offer_by, refreshed_by, told_again}
+use Rattle.router_aging.specs.Telling.{announced, gone_by, kept_offer, known_names, offer_by, refreshed_by, told_again}
 use Rattle.router_aging.proofs.Sets.{same_keys}
 
-pub offer_seen : (c : ℕ) (n : State) (k : SenderKey) → offered (facts_of c n) k ≡ offer_by n.senders n.paths k
-offer_seen c n k = ap (λ (w : Option PathState). or_else (option_map own_offer (get n.senders k)) (option_map path_offer w))
+pub offer_seen : (c : ℕ) (n : State) (k : SenderKey) → offered (facts_of c n) k ≡ offer_by (announced n) n.paths k
+offer_seen c n k = ap (λ (w : Option PathState). or_else (option_map (own_offer (has n.advertised k)) (get n.senders k)) (option_map path_offer w))
     (get-changed path_keys (path_at c) n.paths k) ∙ by (get n.paths k)
   where
-    by : (w : Option (PathFact × ℕ)) → or_else {X = Offer} (option_map own_offer (get n.senders k))
-        (option_map path_offer (then_do w (path_at c k))) ≡ or_else (option_map own_offer (get n.senders k)) (option_map kept_offer w)
+    by : (w : Option (PathFact × ℕ)) → or_else {X = Offer} (option_map (own_offer (has n.advertised k)) (get n.senders k))
+        (option_map path_offer (then_do w (path_at c k))) ≡ or_else (option_map (own_offer (has n.advertised k)) (get n.senders k)) (option_map kept_offer w)
     by None = refl
     by (Some e) = refl
 
 -- by the tables of local senders and of paths, as each answers
-module _ (own : Table sender_keys TokenBucket) (paths : Table path_keys (PathFact × ℕ)) (k : SenderKey) where
-  pub own_offered : (tspec : TokenBucket) → Some tspec ≡ get own k → Some (own_offer tspec) ≡ offer_by own paths k
-  own_offered tspec e = ap (λ (w : Option TokenBucket). or_else {X = Offer} (option_map own_offer w) (option_map kept_offer (get paths k))) e
+module _ (own : Announced) (paths : Table path_keys (PathFact × ℕ)) (k : SenderKey) where
+  pub own_offered : (tspec : TokenBucket) (advertised : Bool) → Some tspec ≡ get own.tspecs k → advertised ≡ has own.advertised k → Some (own_offer advertised tspec) ≡ offer_by own paths k
+  own_offered tspec advertised e f = λ i. or_else {X = Offer} (option_map (own_offer (f i)) (e i)) (option_map kept_offer (get paths k))
 
-  pub path_offered : None ≡ get own k → (w : Option PathFact) → w ≡ option_map (λ e. e.0) (get paths k) → option_map fact_offer w ≡ offer_by own paths k
+  pub path_offered : None ≡ get own.tspecs k → (w : Option PathFact) → w ≡ option_map (λ e. e.0) (get paths k) → option_map fact_offer w ≡ offer_by own paths k
   path_offered none w e =
       ap (option_map fact_offer) e ∙ by (get paths k)
-      ∙ ap (λ (v : Option TokenBucket). or_else {X = Offer} (option_map own_offer v) (option_map kept_offer (get paths k))) none
+      ∙ ap (λ (v : Option TokenBucket). or_else {X = Offer} (option_map (own_offer (has own.advertised k)) v) (option_map kept_offer (get paths k))) none
     where
       by : (v : Option (PathFact × ℕ)) → option_map fact_offer (option_map (λ (e : PathFact × ℕ). e.0) v) ≡ option_map kept_offer v
       by None = refl
@@ -74,7 +75,7 @@ module _ (f : Facts) (s : Session) where
   known_here x = has-known f s x ∙ by (get f.senders (s, x)) (get f.paths (s, x)) ∙ ap is_some (sym (offered_there x))
     where
       by : (v : Option TokenBucket) (w : Option PathState) → (is_some v || is_some w) ≡ is_some
-          (or_else {X = Offer} (option_map own_offer v) (option_map path_offer w))
+          (or_else {X = Offer} (option_map (own_offer (has f.advertised (s, x))) v) (option_map path_offer w))
       by (Some v) w = refl
       by None (Some w) = refl
       by None None = refl
@@ -89,7 +90,7 @@ module _ (f : Facts) (s : Session) where
       (λ e i. ap (told_again p (s, e.0)) (sym (offered_there e.0) ∙ in_found senders (offers_in f s) e.0 e.1 i))
 
 pub refreshed_seen : (c : ℕ) (n : State) (s : Session) (names : Names) → names ≡ known (facts_of c n) s
-    → flat_map (λ x. told_again n.place (s, x) (offer_by n.senders n.paths (s, x))) (keys names) ≡ refreshed n.place (facts_of c n) s
+    → flat_map (λ x. told_again n.place (s, x) (offer_by (announced n) n.paths (s, x))) (keys names) ≡ refreshed n.place (facts_of c n) s
 refreshed_seen c n s names is =
     (λ i. flat_map (λ x. told_again n.place (s, x) (sym (offer_seen c n (s, x)) i)) (keys (is i))) ∙ refreshed_is (facts_of c n) s n.place
 
@@ -118,7 +119,7 @@ known_is c n s = same_set senders (known_names n.senders n.paths s) (known (fact
         ∙ (λ i. is_some (get-under sessions senders n.senders s q i) || is_some (get-under sessions senders n.paths s q i)) ∙ (λ i. has n.senders (s, q) || sym (path q) i)
         ∙ sym (has-known (facts_of c n) s q)
 
-pub refreshed_same : (c : ℕ) (n : State) {p : NodeConfig} {own : Table sender_keys TokenBucket} {paths : Table path_keys (PathFact × ℕ)} → n.place ≡ p → n.senders ≡ own → n.paths ≡ paths
+pub refreshed_same : (c : ℕ) (n : State) {p : NodeConfig} {own : Announced} {paths : Table path_keys (PathFact × ℕ)} → n.place ≡ p → announced n ≡ own → n.paths ≡ paths
     → (s : Session)
     → refreshed_by p own paths s ≡ refreshed n.place (facts_of c n) s
 refreshed_same c n place own paths s = (λ i. refreshed_by (sym place i) (sym own i) (sym paths i) s) ∙ refreshed_seen c n s (known_names n.senders n.paths s) (known_is c n s)
@@ -129,16 +130,16 @@ pub gone_same : (p : NodeConfig) (f g : Facts) (own : Table sender_keys TokenBuc
 gone_same p f g own is dead there gone = flat_among (gone_by p own) (λ k. told_gone p k (offered f k) (offered g k)) (keys dead)
     (λ k i. let h = in_keys sender_keys dead k i in at k (there k h) (gone k h))
   where
-    none : (k : SenderKey) (v : Option TokenBucket) (o : Option Offer) → is_some o ≡ true
-        → cond (is_some v) [] (tears_told p k) ≡ told_gone p k o (or_else {X = Offer} (option_map own_offer v) None)
-    none k v None h = cc
-    none k None (Some o) h = refl
-    none k (Some t) (Some o) h = refl
+    none : (k : SenderKey) (a : Bool) (v : Option TokenBucket) (o : Option Offer) → is_some o ≡ true
+        → cond (is_some v) [] (tears_told p k) ≡ told_gone p k o (or_else {X = Offer} (option_map (own_offer a) v) None)
+    none k a v None h = cc
+    none k a None (Some o) h = refl
+    none k a (Some t) (Some o) h = refl
 
     at : (k : SenderKey) → is_some (offered f k) ≡ true → get g.paths k ≡ None → gone_by p own k ≡ told_gone p k (offered f k) (offered g k)
     at k h e =
-        ap (λ (m : Table sender_keys TokenBucket). cond (has m k) [] (tears_told p k)) (sym is) ∙ none k (get g.senders k) (offered f k) h
-        ∙ ap (λ w. told_gone p k (offered f k) (or_else {X = Offer} (option_map own_offer (get g.senders k)) (option_map path_offer w))) (sym e)
+        ap (λ (m : Table sender_keys TokenBucket). cond (has m k) [] (tears_told p k)) (sym is) ∙ none k (has g.advertised k) (get g.senders k) (offered f k) h
+        ∙ ap (λ w. told_gone p k (offered f k) (or_else {X = Offer} (option_map (own_offer (has g.advertised k)) (get g.senders k)) (option_map path_offer w))) (sym e)
 
 -- ---- told one after another
 pub told_more : {A B C : Type 0} (posted : B → C → B) (say : A → List C) (start out : B) (xs : List A) (i : ℕ) (d : A) → i < length xs → out ≡ fold posted start (flat_map say (take i xs))

@@ -10,6 +10,7 @@ use Rattle.rsvp_base.specs.declared.session.Session.{Session}
 use Rattle.rsvp_base.specs.TokenBucket.{TokenBucket}
 use Rattle.path_state.specs.Paths.{path_keys}
 use Rattle.path_state.specs.declared.fact.PathFact.{PathFact}
+use Rattle.local_state.specs.Rows.{Announced}
 use Rattle.style_rules.specs.Toward.{or_else}
 use Rattle.router_rules.specs.Facts.{SenderKey, sender_keys}
 use Rattle.router_rules.specs.Inputs.{Send}
@@ -17,13 +18,18 @@ use Rattle.router_rules.specs.NodeConfig.{NodeConfig}
 use Rattle.router_rules.specs.Offers.{Offer, own_offer}
 use Rattle.laws_sends.specs.Told.{paths_told, tears_told}
 use Rattle.path_sends.specs.Offering.{fact_offer}
+use Rattle.path_sends.specs.RouterState.State.{State}
+
+-- what local senders announce, as a state has it
+abbrev pub announced : State → Announced
+announced n = record { tspecs = n.senders; advertised = n.advertised }
 
 -- in its own words where it is a local one, else in those of its path
 abbrev pub kept_offer : PathFact × ℕ → Offer
 kept_offer e = fact_offer e.0
 
-abbrev pub offer_by : Table sender_keys TokenBucket → Table path_keys (PathFact × ℕ) → SenderKey → Option Offer
-offer_by own paths k = or_else (option_map own_offer (get own k)) (option_map kept_offer (get paths k))
+abbrev pub offer_by : Announced → Table path_keys (PathFact × ℕ) → SenderKey → Option Offer
+offer_by own paths k = or_else (option_map (own_offer (has own.advertised k)) (get own.tspecs k)) (option_map kept_offer (get paths k))
 
 -- all its Paths, where it is offered
 abbrev pub told_again : NodeConfig → SenderKey → Option Offer → List Send
@@ -34,8 +40,8 @@ told_again p k (Some o) = paths_told p true k o
 abbrev pub known_names : Table sender_keys TokenBucket → Table path_keys (PathFact × ℕ) → Session → Names
 known_names own paths s = with_keys (with_keys empty (keys (under sessions senders own s))) (keys (under sessions senders paths s))
 
-abbrev pub refreshed_by : NodeConfig → Table sender_keys TokenBucket → Table path_keys (PathFact × ℕ) → Session → List Send
-refreshed_by p own paths s = flat_map (λ x. told_again p (s, x) (offer_by own paths (s, x))) (keys (known_names own paths s))
+abbrev pub refreshed_by : NodeConfig → Announced → Table path_keys (PathFact × ℕ) → Session → List Send
+refreshed_by p own paths s = flat_map (λ x. told_again p (s, x) (offer_by own paths (s, x))) (keys (known_names own.tspecs paths s))
 
 -- PathTears of a sender whose path died, if it is no local one
 abbrev pub gone_by : NodeConfig → Table sender_keys TokenBucket → SenderKey → List Send

@@ -30,7 +30,7 @@ pub fn watch_all(due: &Countdowns) -> Touched
 
 /// Whether a session has a local sender or a path.
 pub fn is_counted(senders: &LocalSenders, paths: &PathTable, session: Session) -> bool
-    ensures { result ≡ counts senders.now paths.now.facts session }
+    ensures { result ≡ counts senders.now.tspecs paths.now.facts session }
 {
     if senders.of(session).is_empty() {
         return paths.has_session(session);
@@ -73,7 +73,7 @@ fn stop_one(
     again: bool,
     session: Session,
 )
-    ensures { due.new ≡ cond (again || counts senders.now paths.now.facts session) due.old (without due.old session) }
+    ensures { due.new ≡ cond (again || counts senders.now.tspecs paths.now.facts session) due.old (without due.old session) }
 {
     if !again {
         stop_unless(due, is_counted(senders, paths, session), session);
@@ -88,8 +88,8 @@ pub fn stop_uncounted(
     paths: &PathTable,
     dead: &DeadPaths,
 )
-    requires { (s : Session) → has due.old s ≡ true → list_any (eq_by_cmp sessions.cmp s) (sessions_at dead.now) ≡ false → counts senders.now paths.now.facts s ≡ true }
-    ensures { due.new ≡ kept (counts senders.now paths.now.facts) due.old }
+    requires { (s : Session) → has due.old s ≡ true → list_any (eq_by_cmp sessions.cmp s) (sessions_at dead.now) ≡ false → counts senders.now.tspecs paths.now.facts s ≡ true }
+    ensures { due.new ≡ kept (counts senders.now.tspecs paths.now.facts) due.old }
 {
     let list = dead.as_slice();
     for i in 0..list.len() {
@@ -101,7 +101,7 @@ pub fn stop_uncounted(
 /// Begins a countdown of a whole period for each session that has a local sender, where there is none.
 pub fn begin_all(due: &mut Countdowns, senders: &LocalSenders, period: u32)
     requires { due.old ≡ empty }
-    ensures { due.new ≡ all_begun period senders.now }
+    ensures { due.new ≡ all_begun period senders.now.tspecs }
 {
     senders.limits();
     let list = senders.as_slice();

@@ -27,7 +27,7 @@ pub fn forget_dead<S: Style>(
 )
     requires few { length book.old.ifaces ≤ 16 }
     requires kept { IsBookWith S.kind_is table.old.facts book.old.entries }
-    ensures table { (c : ℕ) (n : State) → n.senders ≡ senders.now → n.paths ≡ paths.now.facts
+    ensures table { (c : ℕ) (n : State) → n.senders ≡ senders.now.tspecs → n.paths ≡ paths.now.facts
         → table.new ≡ record table.old { facts = forgotten_all (lost_names S.kind_is (facts_of c n) (keys dead.now)) table.old.facts } }
     ensures book { MovesWith S.kind_is table.old.facts table.new.facts book.old.entries book.new.entries }
     ensures ifaces { book.new.ifaces ≡ book.old.ifaces }
@@ -48,7 +48,7 @@ pub fn forget_one<S: Style>(
 )
     requires few { length book.old.ifaces ≤ 16 }
     requires kept { IsBookWith S.kind_is table.old.facts book.old.entries }
-    ensures table { (c : ℕ) (n : State) → n.senders ≡ senders.now → n.paths ≡ paths.now.facts
+    ensures table { (c : ℕ) (n : State) → n.senders ≡ senders.now.tspecs → n.paths ≡ paths.now.facts
         → table.new ≡ record table.old { facts = forgotten_all (lost_names S.kind_is (facts_of c n) (dead_key dead.now ∷ [])) table.old.facts } }
     ensures book { MovesWith S.kind_is table.old.facts table.new.facts book.old.entries book.new.entries }
     ensures ifaces { book.new.ifaces ≡ book.old.ifaces }

@@ -39,8 +39,8 @@ impl Model for KnownSenders {
 impl KnownSenders {
     /// Those of a session.
     pub fn of(senders: &LocalSenders, paths: &PathTable, session: Session) -> KnownSenders
-        ensures known { (c : ℕ) (n : State) → n.senders ≡ senders.now → n.paths ≡ paths.now.facts → result ≡ known (facts_of c n) session }
-        ensures names { result ≡ known_names senders.now paths.now.facts session }
+        ensures known { (c : ℕ) (n : State) → n.senders ≡ senders.now.tspecs → n.paths ≡ paths.now.facts → result ≡ known (facts_of c n) session }
+        ensures names { result ≡ known_names senders.now.tspecs paths.now.facts session }
     {
         let mut found = KnownSenders::new();
         add_own(&mut found, senders.of(session));

@@ -21,7 +21,7 @@ use rsvp_base::{Addr, Sender, Session, StyleKind};
 
 // Whether a known sender of a session has this address.
 fn has_address(senders: &LocalSenders, paths: &PathTable, session: Session, addr: Addr) -> bool
-    ensures { result ≡ (list_any (λ x. is_addr x.addr addr) (keys (under sessions orders_senders senders.now session))
+    ensures { result ≡ (list_any (λ x. is_addr x.addr addr) (keys (under sessions orders_senders senders.now.tspecs session))
         || list_any (is_from addr) (keys (under sessions orders_senders paths.now.facts session))) }
 {
     if senders.has_address(session, addr) {
@@ -32,7 +32,7 @@ fn has_address(senders: &LocalSenders, paths: &PathTable, session: Session, addr
 
 // Whether a sender of a session is known.
 fn is_known(senders: &LocalSenders, paths: &PathTable, session: Session, sender: Sender) -> bool
-    ensures { result ≡ (has senders.now (session, sender) || has paths.now.facts (session, sender)) }
+    ensures { result ≡ (has senders.now.tspecs (session, sender) || has paths.now.facts (session, sender)) }
 {
     if senders.find(session, sender).is_some() {
         return true;
@@ -48,7 +48,7 @@ fn has_name(
     session: Session,
     sender: Sender,
 ) -> bool
-    ensures { (c : ℕ) (n : State) → n.senders ≡ senders.now → n.paths ≡ paths.now.facts → result ≡ has (named_as style (known (facts_of c n) session)) (name_of style sender) }
+    ensures { (c : ℕ) (n : State) → n.senders ≡ senders.now.tspecs → n.paths ≡ paths.now.facts → result ≡ has (named_as style (known (facts_of c n) session)) (name_of style sender) }
 {
     match style {
         StyleKind::Wild => has_address(senders, paths, session, sender.addr),
@@ -65,7 +65,7 @@ pub fn lost_name(
     style: StyleKind,
     dead: &DeadPath,
 ) -> Option<Sender>
-    ensures { (c : ℕ) (n : State) → n.senders ≡ senders.now → n.paths ≡ paths.now.facts → option_map (λ x. (dead.now.session, x)) result ≡ lost_at style (facts_of c n) (dead_key dead.now) }
+    ensures { (c : ℕ) (n : State) → n.senders ≡ senders.now.tspecs → n.paths ≡ paths.now.facts → option_map (λ x. (dead.now.session, x)) result ≡ lost_at style (facts_of c n) (dead_key dead.now) }
 {
     if has_name(senders, paths, style, dead.session, dead.sender) {
         return None;

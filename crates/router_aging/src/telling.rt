@@ -9,7 +9,7 @@ ghost use Rattle.laws_sends.specs.Told.{offered};
 ghost use Rattle.path_sends.specs.Offering.{as_offer};
 ghost use Rattle.laws_sends.specs.Several.{gone_told, refreshed};
 ghost use Rattle.router_aging.specs.Passing.{dead_key};
-ghost use Rattle.router_aging.specs.Telling.{gone_by, offer_by, refreshed_by, told_again};
+ghost use Rattle.router_aging.specs.Telling.{announced, gone_by, offer_by, refreshed_by, told_again};
 
 use crate::dead::{DeadPath, DeadPaths};
 use crate::known::KnownSenders;
@@ -29,8 +29,8 @@ fn offered(
 ) -> Option<Offered>
     ensures { option_map as_offer result ≡ offer_by senders.now paths.now.facts (session, sender) }
 {
-    if let Some(tspec) = senders.find(session, sender) {
-        return Some(Offered::own(tspec));
+    if let Some(own) = senders.find(session, sender) {
+        return Some(Offered::own(own.tspec, own.advertised));
     }
     match paths.find(session, sender) {
         Some(fact) => Some(Offered::passed(fact.tspec, &fact.adspec)),
@@ -94,7 +94,7 @@ pub fn tell_refresh<O: Outbox>(
     session: Session,
     out: &mut O,
 )
-    ensures { (c : ℕ) (n : State) → n.place ≡ config.now → n.senders ≡ senders.now → n.paths ≡ paths.now.facts → out.new ≡ fold O.posted out.old (refreshed n.place (facts_of c n) session) }
+    ensures { (c : ℕ) (n : State) → n.place ≡ config.now → announced n ≡ senders.now → n.paths ≡ paths.now.facts → out.new ≡ fold O.posted out.old (refreshed n.place (facts_of c n) session) }
 {
     tell_session(config, senders, paths, session, out);
 }
@@ -107,7 +107,7 @@ pub fn tell_fired<O: Outbox>(
     fired: &Fired,
     out: &mut O,
 )
-    ensures { (c : ℕ) (n : State) → n.place ≡ config.now → n.senders ≡ senders.now → n.paths ≡ paths.now.facts
+    ensures { (c : ℕ) (n : State) → n.place ≡ config.now → announced n ≡ senders.now → n.paths ≡ paths.now.facts
         → out.new ≡ fold O.posted out.old (flat_map (refreshed n.place (facts_of c n)) (keys fired.now)) }
 {
     let list = fired.as_slice();
@@ -118,7 +118,7 @@ pub fn tell_fired<O: Outbox>(
 
 // The tears of a sender whose path died, if it is no local one.
 fn tell_one<O: Outbox>(config: &Config, senders: &LocalSenders, dead: &DeadPath, out: &mut O)
-    ensures { out.new ≡ fold O.posted out.old (gone_by config.now senders.now (dead_key dead.now)) }
+    ensures { out.new ≡ fold O.posted out.old (gone_by config.now senders.now.tspecs (dead_key dead.now)) }
 {
     if senders.find(dead.session, dead.sender).is_none() {
         tell_path_tears(config, dead.session, dead.sender, out);
@@ -128,7 +128,7 @@ fn tell_one<O: Outbox>(config: &Config, senders: &LocalSenders, dead: &DeadPath,
 /// The PathTears of the senders whose paths died and that are no local ones, in order of session and sender: those that
 /// are offered no more. Before the wait each of these paths was there, and after it none is.
 pub fn tell_dead<O: Outbox>(config: &Config, senders: &LocalSenders, dead: &DeadPaths, out: &mut O)
-    ensures { (f g : Facts) → g.senders ≡ senders.now → ((k : SenderKey) → has dead.now k ≡ true → is_some (offered f k) ≡ true)
+    ensures { (f g : Facts) → g.senders ≡ senders.now.tspecs → ((k : SenderKey) → has dead.now k ≡ true → is_some (offered f k) ≡ true)
         → ((k : SenderKey) → has dead.now k ≡ true → get g.paths k ≡ None)
         → out.new ≡ fold O.posted out.old (gone_told config.now f g (keys dead.now)) }
 {

@@ -31,7 +31,7 @@ pub said_with : (n : State) (any said : Said) → IsSaid said n → IsSaid said 
 said_with n any said told = record { at = told.at; some = told.some }
 
 pub change_with : (k : SenderKey) (n m : State) (any : Said) → IsChangedFor k n m → IsChangedFor k n (record m { said = any })
-change_with k n m any ch = record { place = ch.place; senders = ch.senders; paths = ch.paths; wants = ch.wants; walls = ch.walls; resvs = λ st q off. by st q (ch.resvs st q off) }
+change_with k n m any ch = record { place = ch.place; senders = ch.senders; advertised = ch.advertised; paths = ch.paths; wants = ch.wants; walls = ch.walls; resvs = λ st q off. by st q (ch.resvs st q off) }
   where
     by : (st : StyleKind) (q : LineKey) → get (table_in st n) q ≡ get (table_in st m) q → get (table_in st n) q ≡ get (table_in st (record m { said = any })) q
     by Wild q e = e

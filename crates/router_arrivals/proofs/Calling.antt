@@ -6,26 +6,28 @@ use Rattle.rsvp_base.specs.SessionLimits.{has_room_at}
 use Rattle.rsvp_base.specs.Table.{has, put_in}
 use Rattle.rsvp_base.specs.TokenBucket.{TokenBucket}
 use Rattle.router_rules.specs.Act.{act}
-use Rattle.router_rules.specs.Calls.{call_refusal, needs, senders_with, unless, wants_with}
+use Rattle.router_rules.specs.Calls.{advertised_with, call_refusal, needs, senders_with, unless, wants_with}
 use Rattle.router_rules.specs.Facts.{SenderKey}
-use Rattle.router_rules.specs.Inputs.{Call, DropAs, Local, SendAs, only_heard}
+use Rattle.router_rules.specs.Inputs.{AdvertAs, Call, DropAs, Local, SendAs, only_heard}
 use Rattle.router_rules.specs.NodeConfig.{is_own}
 use Rattle.router_rules.specs.Rule.{refusal_of_call}
 use Rattle.router_rules.specs.declared.answers.Heard.TheVariants as heard
 use Rattle.router_rules.specs.declared.answers.LocalErr.{LocalErr}
 use Rattle.router_rules.specs.declared.answers.LocalErr.TheVariants as local
-use Rattle.router_state.specs.Changes.{senders_put, senders_without}
+use Rattle.router_state.specs.Changes.{advertised_put, senders_put, senders_without}
 use Rattle.router_state.specs.State.{State, facts_at, facts_of}
 
 module _ (n : State) (c : ℕ) where
   by_refusal : (l : Local) (r : Option LocalErr) → call_refusal n.place l (facts_of c n) ≡ r
       → act n.place c (Call l) (facts_of c n) ≡ only_heard heard.Taken (record (facts_of c n) {
         senders = unless r (senders_with l n.senders) n.senders;
+        advertised = unless r (advertised_with l n.advertised) n.advertised;
         wants = unless r
             (wants_with l n.wants) n.wants;
       })
   by_refusal l r e = ap (λ (w : Option LocalErr). only_heard heard.Taken (record (facts_of c n) {
     senders = unless w (senders_with l n.senders) n.senders;
+    advertised = unless w (advertised_with l n.advertised) n.advertised;
     wants = unless w
         (wants_with l n.wants) n.wants;
   })) e
@@ -61,3 +63,14 @@ module _ (n : State) (c : ℕ) where
 
     pub drops_now : call_refusal n.place (DropAs k.0 k.1) (facts_of c n) ≡ None → act n.place c (Call (DropAs k.0 k.1)) (facts_of c n) ≡ only_heard heard.Taken (facts_of c (senders_without n k))
     drops_now e = by_refusal (DropAs k.0 k.1) None e
+
+    -- what is told of a sender that is not there
+    pub is_unheard : has n.senders k ≡ false → call_refusal n.place (AdvertAs k.0 k.1) (facts_of c n) ≡ Some local.Absent
+    is_unheard off = ap (λ b. needs b local.Absent None) off
+
+    pub may_advertise : has n.senders k ≡ true → call_refusal n.place (AdvertAs k.0 k.1) (facts_of c n) ≡ None
+    may_advertise on = ap (λ b. needs b local.Absent None) on
+
+    pub advertises_now : call_refusal n.place (AdvertAs k.0 k.1) (facts_of c n) ≡ None → act n.place c (Call (AdvertAs k.0 k.1)) (facts_of c n)
+        ≡ only_heard heard.Taken (facts_of c (advertised_put n k))
+    advertises_now e = by_refusal (AdvertAs k.0 k.1) None e

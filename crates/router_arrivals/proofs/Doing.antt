@@ -1,5 +1,6 @@
 -- A path or a local sender that comes or goes is what the rule does.
 use Rattle.std.specs.Prelude.{◌≡◌, ◌||◌, ℕ, true, None, Some, refl}
+use Rattle.std.proofs.Common.{sym, ap, subst, ◌∙◌}
 use Rattle.path_state.specs.Paths.{path_keys}
 use Rattle.path_state.specs.declared.fact.PathFact.{PathFact}
 use Rattle.rsvp_base.specs.Orders.{senders}
@@ -13,17 +14,19 @@ use Rattle.rsvp_messages.specs.declared.message.PathTearMsg.{PathTearMsg}
 use Rattle.router_rules.specs.Calls.{call_refusal}
 use Rattle.router_rules.specs.Facts.{SenderKey, sender_keys}
 use Rattle.router_rules.specs.Forgetting.{counted, forget}
-use Rattle.router_rules.specs.Inputs.{Call, DropAs, SendAs}
+use Rattle.router_rules.specs.Inputs.{AdvertAs, Call, DropAs, SendAs, only_heard}
 use Rattle.router_rules.specs.NodeConfig.{comes_in, is_own, lifetime}
 use Rattle.router_rules.specs.Paths.{is_path_by}
 use Rattle.router_rules.specs.declared.answers.Heard.TheVariants as heard
-use Rattle.router_state.specs.Changes.{path_came, paths_put, paths_without, senders_put, senders_without, tear_came}
-use Rattle.router_state.specs.State.{IsSettled, Said, State, facts_of}
-use Rattle.laws_sends.proofs.Apart.{path_out, path_put, sender_out, sender_put}
+use Rattle.router_state.specs.Changes.{advertised_put, path_came, paths_put, paths_without, senders_put, senders_without, tear_came}
+use Rattle.router_state.specs.State.{AreNamed, IsSettled, Said, State, facts_of}
+use Rattle.laws_sends.specs.Changed.{IsChangedFor}
+use Rattle.laws_sends.proofs.Apart.{path_out, path_put, sender_advertised, sender_out, sender_put}
 use Rattle.router_arrivals.specs.Coming.{fact_of, with_path, with_sender, without_path, without_sender}
-use Rattle.router_arrivals.proofs.Before.{is_plain}
-use Rattle.router_arrivals.proofs.Calling.{drops_now, may_drop, may_send, sends_now}
+use Rattle.router_arrivals.proofs.Before.{change_with, is_plain}
+use Rattle.router_arrivals.proofs.Calling.{advertises_now, drops_now, may_advertise, may_drop, may_send, sends_now}
 use Rattle.router_arrivals.proofs.Going.{leaves}
+use Rattle.router_arrivals.proofs.Here.{here_plain}
 use Rattle.router_arrivals.proofs.Keeping.{counts_by, put_more, put_there}
 use Rattle.router_arrivals.proofs.Offering.{came_there}
 use Rattle.router_arrivals.proofs.Pathing.{is_learnt, is_torn}
@@ -94,3 +97,13 @@ module _ (n : State) (kept : IsSettled n) where
     pub sender_goes : (w : State) (any : Said) → w ≡ record (without_sender n k) { said = any } → IsPlain k n (Call (DropAs k.0 k.1)) heard.Taken w
     sender_goes w any now =
         leaves n kept k (senders_without n k) (sender_out n k) refl kept.named (or_left _ (has n.paths k) there) (Call (DropAs k.0 k.1)) (λ c. drops_now n c k (drop_free c)) w any now
+
+    -- what it announces stays, and so does all else but that it is advertised
+    pub advert_free : (c : ℕ) → call_refusal n.place (AdvertAs k.0 k.1) (facts_of c n) ≡ None
+    advert_free c = may_advertise n c k there
+
+    pub sender_told : (w : State) (any : Said) → w ≡ record (advertised_put n k) { said = any } → IsPlain k n (Call (AdvertAs k.0 k.1)) heard.Taken w
+    sender_told w any now =
+        here_plain k n w kept (subst (IsChangedFor k n) (sym now) (change_with k n (advertised_put n k) any (sender_advertised n k))) (ap (λ (z : State). z.senders) now)
+        (ap (λ (z : State). z.paths) now) (ap (λ (z : State). z.due) now) (λ c. subst (λ (z : State). AreNamed (facts_of c z)) (sym now) (kept.named c)) (Call (AdvertAs k.0 k.1)) heard.Taken
+        (λ c. advertises_now n c k (advert_free c) ∙ ap (λ (z : State). only_heard heard.Taken (facts_of c z)) (sym now))

@@ -9,6 +9,7 @@ use Rattle.blockade_state.specs.Blockades.{WallMap}
 use Rattle.resv_state.specs.Resvs.{AreOfStyle, ResvFacts, resv_key}
 use Rattle.resv_state.specs.declared.fact.ResvFact.{ResvFact}
 use Rattle.rsvp_base.specs.Orders.{sessions}
+use Rattle.rsvp_base.specs.Sets.{Set}
 use Rattle.rsvp_base.specs.Table.{Table, changed, get, has, put_in}
 use Rattle.rsvp_base.specs.TokenBucket.{TokenBucket}
 use Rattle.rsvp_base.specs.declared.session.Session.{Session}
@@ -127,11 +128,12 @@ all_styles n a b c Shared = c
 
 -- ---- where the rest is as it was and the facts of other sessions' reservations too, only the session changed
 pub resvs_changed : (k : SenderKey) (n m : State) → ((st : StyleKind) (q : LineKey) → eq_by_cmp sessions.cmp k.0 q.0 ≡ false → get (resvs_of st (facts_of 0 n)) q ≡ get (resvs_of st (facts_of 0 m)) q)
-    → n.place ≡ m.place → n.senders ≡ m.senders
+    → n.place ≡ m.place → n.senders ≡ m.senders → n.advertised ≡ m.advertised
     → n.paths ≡ m.paths → n.wants ≡ m.wants → n.walls ≡ m.walls → AreOfStyles n → AreOfStyles m → IsChangedFor k n m
-resvs_changed k n m away place senders paths wants walls a b = record {
+resvs_changed k n m away place senders advertised paths wants walls a b = record {
   place = place;
   senders = λ j off. ap (λ (t : Table sender_keys TokenBucket). get t j) senders;
+  advertised = λ j off. ap (λ (t : Set sender_keys). has t j) advertised;
   paths = λ j off. ap (λ (t : Table path_keys (PathFact × ℕ)). get t j) paths;
   wants = λ j off. ap (λ (t : Wants). get t j) wants;
   walls = λ j off. ap (λ (t : WallMap). get t j) walls;

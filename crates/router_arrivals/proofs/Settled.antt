@@ -85,12 +85,12 @@ module _ (p : NodeConfig) (c : ℕ) (n : State) (kept : IsSettled n) where
       → settled p c f (act_call p (WantAs s st names flow mark) f).facts ≡ (act_call p (WantAs s st names flow mark) f).facts
   want_settled s st names flow mark =
       let l : Local = WantAs s st names flow mark in
-      called l (act_call p l f).facts (λ i. record f { senders = unless_same (call_refusal p l f) f.senders i; wants = after l })
+      called l (act_call p l f).facts (λ i. record f { senders = unless_same (call_refusal p l f) f.senders i; advertised = unless_same (call_refusal p l f) f.advertised i; wants = after l })
 
   pub quit_settled : (s : Session) → settled p c f (act_call p (QuitAll s) f).facts ≡ (act_call p (QuitAll s) f).facts
   quit_settled s =
       let l : Local = QuitAll s in
-      called l (act_call p l f).facts (λ i. record f { senders = unless_same (call_refusal p l f) f.senders i; wants = after l })
+      called l (act_call p l f).facts (λ i. record f { senders = unless_same (call_refusal p l f) f.senders i; advertised = unless_same (call_refusal p l f) f.advertised i; wants = after l })
 
   -- ---- what is left over
   same_settled : settled p c f f ≡ f

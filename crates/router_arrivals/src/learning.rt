@@ -4,6 +4,7 @@ ghost use Rattle.rsvp_base.specs.Orders.{senders};
 ghost use Rattle.rsvp_base.specs.SessionLimits.{has_room_at};
 ghost use Rattle.rsvp_base.specs.Table.{empty, has, put_in};
 ghost use Rattle.router_rules.specs.NodeConfig.{lifetime};
+ghost use Rattle.router_state.specs.Changes.{advertised_put};
 ghost use Rattle.router_state.specs.State.{IsSettled};
 ghost use Rattle.router_state.specs.Whole.{state_of};
 ghost use Rattle.router_arrivals.specs.Coming.{fact_of, path_key, with_path, with_sender};
@@ -108,7 +109,7 @@ pub fn keep_path(tables: &mut Tables, fact: PathFact, left: u32) -> bool
 /// Keeps a local sender, if there is room for it; its session has a countdown then. Whether there was room.
 pub fn keep_sender(tables: &mut Tables, session: Session, sender: Sender, tspec: Flow) -> bool
     requires settled { IsSettled (state_of tables.old empty) }
-    ensures room { result ≡ has_room_at senders (put_in tables.old.senders (session, sender) tspec) session }
+    ensures room { result ≡ has_room_at senders (put_in tables.old.senders.tspecs (session, sender) tspec) session }
     ensures state { state_of tables.new empty ≡ cond result (with_sender (state_of tables.old empty) (session, sender) tspec) (state_of tables.old empty) }
     ensures rest { tables.new ≡ record tables.old { senders = tables.new.senders; paths = tables.new.paths; due = tables.new.due } }
     ensures paths { tables.new.paths ≡ tables.old.paths }
@@ -121,4 +122,14 @@ pub fn keep_sender(tables: &mut Tables, session: Session, sender: Sender, tspec:
     };
     tables.due.begin(session, period);
     true
+}
+
+/// A local sender is advertised from now on. Whether there is such a sender; where there is none nothing changes.
+pub fn advertise_sender(tables: &mut Tables, session: Session, sender: Sender) -> bool
+    ensures there { result ≡ has tables.old.senders.tspecs (session, sender) }
+    ensures state { state_of tables.new empty ≡ cond result (advertised_put (state_of tables.old empty) (session, sender)) (state_of tables.old empty) }
+    ensures rest { tables.new ≡ record tables.old { senders = tables.new.senders; paths = tables.new.paths; due = tables.new.due } }
+    ensures paths { tables.new.paths ≡ tables.old.paths }
+{
+    tables.senders.advertise(session, sender)
 }

@@ -72,7 +72,7 @@ pub fn drop_path(tables: &mut Tables, session: Session, sender: Sender)
 pub fn drop_sender(tables: &mut Tables, session: Session, sender: Sender) -> bool
     requires sound { AreSound tables.old }
     requires settled { IsSettled (state_of tables.old empty) }
-    ensures there { result ≡ has tables.old.senders (session, sender) }
+    ensures there { result ≡ has tables.old.senders.tspecs (session, sender) }
     ensures state { state_of tables.new empty ≡ cond result (without_sender (state_of tables.old empty) (session, sender)) (state_of tables.old empty) }
     ensures sound { AreSound tables.new }
     ensures ifaces { tables.new.book.ifaces ≡ tables.old.book.ifaces }

@@ -1,9 +1,10 @@
 -- A Path from the hop that the path of its sender came from: what goes toward each hop is what went there before.
-use Rattle.std.specs.Prelude.{◌≡◌, ℕ, ◌+◌, Bool, true, false, cond, is_some, [], Option, Some, None, refl}
+use Rattle.std.specs.Prelude.{◌≡◌, ℕ, ◌+◌, Bool, true, false, cond, is_some, [], Option, Some, None, IfSome, refl}
 use Rattle.std.specs.Option.{option_map}
 use Rattle.std.proofs.Common.{sym, ap, subst, ◌∙◌}
 use Rattle.path_state.specs.Paths.{path_keys}
 use Rattle.path_state.specs.declared.fact.PathFact.{PathFact}
+use Rattle.path_sends.specs.Offering.{passed_offer}
 use Rattle.rsvp_base.specs.Table.{get, has, put_in}
 use Rattle.rsvp_base.specs.Orders.{senders}
 use Rattle.rsvp_base.specs.SessionLimits.{has_room_at}
@@ -35,7 +36,7 @@ use Rattle.router_arrivals.proofs.Doing.{path_comes}
 use Rattle.router_arrivals.proofs.Keeping.{put_there}
 use Rattle.router_arrivals.proofs.Ruled.{without_marks}
 use Rattle.path_sends.specs.declared.renewal.Renewal.{Renewal}
-use Rattle.path_sends.specs.Renewing.{AreNews, offer_by}
+use Rattle.path_sends.specs.Renewing.{AreNews, offer_by, own_of}
 use Rattle.router_core.proofs.Quiet.{marks_wait, quiet_sends}
 
 -- the path that came by the hop
@@ -44,35 +45,53 @@ stood : (c : ℕ) (k : SenderKey) (hop : NextHop) (w : Option (PathFact × ℕ))
 stood c k hop None e = cc
 stood c k hop (Some x) e = (x, refl, came_told hop (record { iface = x.0.iface; hop = x.0.hop; tspec = x.0.tspec; police = x.0.police; adspec = x.0.adspec; dies = c + x.1 }) e)
 
+-- what a local sender announces, and whether it is advertised
+abbrev pub own_at : State → SenderKey → Option (Bool × TokenBucket)
+own_at n k = own_of (has n.advertised k) (get n.senders k)
+
+pub own_there : (a : Bool) (t : Option TokenBucket) → is_some (own_of a t) ≡ is_some t
+own_there a None = refl
+own_there a (Some t) = refl
+
 -- what is offered of a sender that has this path
-pub offers : (c : ℕ) (n : State) (k : SenderKey) (own : Option TokenBucket) → own ≡ get n.senders k → (f : PathFact) → option_map (λ e. e.0) (get n.paths k) ≡ Some f
+pub offers : (c : ℕ) (n : State) (k : SenderKey) (own : Option (Bool × TokenBucket)) → own ≡ own_at n k → (f : PathFact) → option_map (λ e. e.0) (get n.paths k) ≡ Some f
     → Some (offer_by own f.tspec f.adspec) ≡ offered (facts_of c n) k
-offers c n k (Some tspec) is f at = own_seen c n k tspec (sym is)
-offers c n k None is f at = path_seen c n k (sym is) (Some f) (sym at)
+offers c n k (Some own) is f at = by (get n.senders k) refl is
+  where
+    by : (w : Option TokenBucket) → get n.senders k ≡ w → Some own ≡ own_of (has n.advertised k) w → Some (own_offer own.0 own.1) ≡ offered (facts_of c n) k
+    by None e same = cc
+    by (Some tspec) e same =
+        let one : ◌≡◌ {A = Bool × TokenBucket} own (has n.advertised k, tspec) = cc in
+        own_seen c n k own.1 own.0 (e ∙ ap (λ z. Some z.1) (sym one)) (ap (λ z. z.0) (sym one))
+offers c n k None is f at = by (get n.senders k) refl is
+  where
+    by : (w : Option TokenBucket) → get n.senders k ≡ w → None ≡ own_of (has n.advertised k) w → Some (passed_offer f.tspec f.adspec) ≡ offered (facts_of c n) k
+    by (Some tspec) e same = cc
+    by None e same = path_seen c n k e (Some f) (sym at)
 
 -- n is what there was, w what the tables have then
 module _ (n w : State) (k : SenderKey) (fact : PathFact) (left : ℕ) (said : Said) (now : w ≡ record (with_path n k fact left) { said = said })
     (by : (c : ℕ) → is_path_by (fact.iface, fact.hop.addr) (get (facts_of c n).paths k) ≡ true) where
   -- what is offered then
-  pub offers_again : (c : ℕ) (own : Option TokenBucket) → own ≡ get n.senders k → Some (offer_by own fact.tspec fact.adspec) ≡ offered (facts_of c w) k
+  pub offers_again : (c : ℕ) (own : Option (Bool × TokenBucket)) → own ≡ own_at n k → Some (offer_by own fact.tspec fact.adspec) ≡ offered (facts_of c w) k
   offers_again c own is =
-      offers c w k own (is ∙ ap (λ (z : State). get z.senders k) (sym now)) fact (ap (λ (z : State). option_map (λ (e : PathFact × ℕ). e.0) (get z.paths k)) now
+      offers c w k own (is ∙ ap (λ (z : State). own_at z k) (sym now)) fact (ap (λ (z : State). option_map (λ (e : PathFact × ℕ). e.0) (get z.paths k)) now
       ∙ ap (option_map (λ (e : PathFact × ℕ). e.0)) (get-put_in_same path_keys n.paths k (fact, left)))
 
   -- what was offered of its sender and what is offered then, of which the renewal tells
   pub renewal_told : (r : Option Renewal)
       → ((f : PathFact) → option_map (λ (e : PathFact × ℕ). e.0) (get n.paths k) ≡ Some f
-      → AreNews r (offer_by (get n.senders k) f.tspec f.adspec) (offer_by (get n.senders k) fact.tspec fact.adspec))
+      → AreNews r (offer_by (own_at n k) f.tspec f.adspec) (offer_by (own_at n k) fact.tspec fact.adspec))
       → (c : ℕ) → (old : Offer) × (new : Offer) × AreNews r old new × (Some old ≡ offered (facts_of c n) k) × (Some new ≡ offered (facts_of c w) k)
   renewal_told r news c =
       let there = stood c k (fact.iface, fact.hop.addr) (get n.paths k) (sym (ap (is_path_by (fact.iface, fact.hop.addr)) (get-changed path_keys (path_at c) n.paths k)) ∙ by c) in
       let was : PathFact = there.0.0 in
       let is : option_map (λ (e : PathFact × ℕ). e.0) (get n.paths k) ≡ Some was = ap (option_map (λ (e : PathFact × ℕ). e.0)) there.1 in (
-        offer_by (get n.senders k) was.tspec was.adspec,
-        offer_by (get n.senders k) fact.tspec fact.adspec,
+        offer_by (own_at n k) was.tspec was.adspec,
+        offer_by (own_at n k) fact.tspec fact.adspec,
         news was is,
-        offers c n k (get n.senders k) refl was is,
-        offers_again c (get n.senders k) refl,
+        offers c n k (own_at n k) refl was is,
+        offers_again c (own_at n k) refl,
       )
 
   pub toward_again : (c : ℕ) (p : NodeConfig) (l : Lane) → toward p (facts_of c n) l ≡ toward p (facts_of c w) l
@@ -86,15 +105,15 @@ module _ (n w : State) (k : SenderKey) (fact : PathFact) (left : ℕ) (said : Sa
   -- its sender is offered still
   still_offered : (c : ℕ) → told_gone n.place k (offered (facts_of c n) k) (offered (facts_of c w) k) ≡ []
   still_offered c =
-      by_two (offered (facts_of c n) k) (get (facts_of c w).senders k) (get (facts_of c w).paths k)
+      by_two (offered (facts_of c n) k) (has (facts_of c w).advertised k) (get (facts_of c w).senders k) (get (facts_of c w).paths k)
       (ap (λ (z : State). has (facts_of c z).paths k) now ∙ has_changed path_keys (path_at c) (λ j e. refl) (put_in n.paths k (fact, left)) k ∙ put_there path_keys n.paths k (fact, left))
     where
-      by_two : (o : Option Offer) (own : Option TokenBucket) (path : Option PathState) → is_some path ≡ true
-          → told_gone n.place k o (or_else (option_map own_offer own) (option_map path_offer path)) ≡ []
-      by_two None own path h = refl
-      by_two (Some o) (Some t) path h = refl
-      by_two (Some o) None (Some y) h = refl
-      by_two (Some o) None None h = cc
+      by_two : (o : Option Offer) (advertised : Bool) (own : Option TokenBucket) (path : Option PathState) → is_some path ≡ true
+          → told_gone n.place k o (or_else (option_map (own_offer advertised) own) (option_map path_offer path)) ≡ []
+      by_two None advertised own path h = refl
+      by_two (Some o) advertised (Some t) path h = refl
+      by_two (Some o) advertised None (Some y) h = refl
+      by_two (Some o) advertised None None h = cc
 
   -- so its Paths alone are sent, where an interface sends another flow or ADSPEC
   pub sent_again : IsChangedFor k n w → (c : ℕ) (h : Heard) → sends n.place n.place (facts_of c n) (facts_of c w) (only_heard h (facts_of c w))

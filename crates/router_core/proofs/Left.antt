@@ -5,7 +5,7 @@ use Rattle.std.proofs.Common.{sym, ap, ◌∙◌}
 use Rattle.path_state.specs.Paths.{path_keys}
 use Rattle.path_state.specs.declared.fact.PathFact.{PathFact}
 use Rattle.rsvp_base.specs.Sets.{Set}
-use Rattle.rsvp_base.specs.Table.{get}
+use Rattle.rsvp_base.specs.Table.{get, has}
 use Rattle.rsvp_base.proofs.Tables.{get-changed, then_do}
 use Rattle.style_rules.specs.Lines.{next_hops}
 use Rattle.style_rules.specs.Toward.{or_else}
@@ -21,7 +21,7 @@ use Rattle.router_arrivals.proofs.Before.{is_before}
 -- what is offered of a sender is the same at each clock
 offers_at : (n : State) (k : SenderKey) (c : ℕ) → offered (facts_of 0 n) k ≡ offered (facts_of c n) k
 offers_at n k c =
-    ap (λ w. or_else (option_map own_offer (get n.senders k)) w)
+    ap (λ w. or_else (option_map (own_offer (has n.advertised k)) (get n.senders k)) w)
     (ap (option_map path_offer) (get-changed path_keys (path_at 0) n.paths k) ∙ by (get n.paths k) ∙ sym (ap (option_map path_offer) (get-changed path_keys (path_at c) n.paths k)))
   where
     by : (w : Option (PathFact × ℕ)) → option_map path_offer (then_do w (path_at 0 k)) ≡ option_map path_offer (then_do w (path_at c k))

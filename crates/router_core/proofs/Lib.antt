@@ -9,6 +9,7 @@ mod Left
 mod Waited
 mod Booking
 mod Quiet
+mod BySession
 mod Again
 mod WithParts
 mod InOrder

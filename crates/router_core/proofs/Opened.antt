@@ -4,11 +4,12 @@ use Rattle.std.specs.Option.{option_map}
 use Rattle.std.proofs.Common.{ap, sym, ◌∙◌}
 use Rattle.admission_book.specs.Book.{Bookings}
 use Rattle.blockade_state.specs.Blockades.{WallMap}
+use Rattle.local_state.specs.Rows.{Announced}
 use Rattle.path_state.specs.Paths.{PathMap}
 use Rattle.resv_state.specs.Resvs.{ResvMap}
 use Rattle.rsvp_base.specs.Orders.{sessions}
 use Rattle.rsvp_base.specs.Table.{Table, empty, get}
-use Rattle.router_rules.specs.Facts.{Wants, sender_keys}
+use Rattle.router_rules.specs.Facts.{Wants}
 use Rattle.rsvp_base.specs.TokenBucket.{TokenBucket}
 use Rattle.rsvp_base.specs.declared.entry_key.EntryKey.{EntryKey}
 use Rattle.rsvp_base.specs.declared.part.Part.{Part}
@@ -26,14 +27,15 @@ booked_none p n b made is c i k =
     none ∙ none_booked p c i k ∙ sym (ap (λ (z : State). option_map (λ (part : Part). part.flow) (get (books (facts_of c z) i) k)) made)
 
 -- tables of which each is empty
-module _ (p : NodeConfig) (senders : Table sender_keys TokenBucket) (wants : Wants) (due : Table sessions ℕ) (wild fixed shared : ResvMap) (paths : PathMap) (walls : WallMap) (s : senders ≡ empty)
+module _ (p : NodeConfig) (senders : Announced) (wants : Wants) (due : Table sessions ℕ) (wild fixed shared : ResvMap) (paths : PathMap) (walls : WallMap) (s : senders ≡ record { tspecs = empty; advertised = empty })
     (w : wants ≡ empty) (d : due ≡ empty)
     (a : wild ≡ record { facts = empty; dead = empty }) (b : fixed ≡ record { facts = empty; dead = empty }) (e : shared ≡ record { facts = empty; dead = empty })
     (q : paths ≡ record { facts = empty; dead = empty }) (l : walls ≡ empty) where
   abbrev of_tables : State
   of_tables = record {
     place = p;
-    senders = senders;
+    senders = senders.tspecs;
+    advertised = senders.advertised;
     wants = wants;
     paths = paths.facts;
     wild = wild.facts;
@@ -48,7 +50,8 @@ module _ (p : NodeConfig) (senders : Table sender_keys TokenBucket) (wants : Wan
   is_opened = λ i.
       record {
         place = p;
-        senders = s i;
+        senders = (s i).tspecs;
+        advertised = (s i).advertised;
         wants = w i;
         paths = (q i).facts;
         wild = (a i).facts;

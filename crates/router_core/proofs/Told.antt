@@ -2,7 +2,7 @@
 use Rattle.std.specs.Prelude.{◌≡◌, [], Bool, true, false, cond, length, ◌≤◌, Result, Ok, Err, OnErr}
 use Rattle.std.proofs.Common.{ap, sym, subst, ◌∙◌}
 use Rattle.rsvp_base.specs.Orders.{sessions}
-use Rattle.rsvp_base.specs.Table.{empty, get}
+use Rattle.rsvp_base.specs.Table.{empty, get, has}
 use Rattle.rsvp_base.specs.declared.session.Sender.{Sender}
 use Rattle.rsvp_base.specs.declared.session.Session.{Session}
 use Rattle.std.specs.Ordering.{eq_by_cmp}
@@ -70,7 +70,8 @@ pub wants_changed : (old new : Tables) → new ≡ record old { wants = new.want
     → IsChangedFor (s, x) (state_of old said) (state_of new said)
 wants_changed old new rest s others x said = record {
   place = sym (ap (λ (t : Tables). t.config) rest);
-  senders = λ j off. sym (ap (λ (t : Tables). get t.senders j) rest);
+  senders = λ j off. sym (ap (λ (t : Tables). get t.senders.tspecs j) rest);
+  advertised = λ j off. sym (ap (λ (t : Tables). has t.senders.advertised j) rest);
   paths = λ j off. sym (ap (λ (t : Tables). get t.paths.facts j) rest);
   wants = others;
   walls = λ j off. sym (ap (λ (t : Tables). get t.walls j) rest);
@@ -96,7 +97,8 @@ pub walls_changed : (old new : Tables) → new ≡ record old { walls = new.wall
     → IsChangedFor (s, x) (state_of old said) (state_of new said)
 walls_changed old new rest s others x said = record {
   place = sym (ap (λ (t : Tables). t.config) rest);
-  senders = λ j off. sym (ap (λ (t : Tables). get t.senders j) rest);
+  senders = λ j off. sym (ap (λ (t : Tables). get t.senders.tspecs j) rest);
+  advertised = λ j off. sym (ap (λ (t : Tables). has t.senders.advertised j) rest);
   paths = λ j off. sym (ap (λ (t : Tables). get t.paths.facts j) rest);
   wants = λ j off. sym (ap (λ (t : Tables). get t.wants j) rest);
   walls = others;
@@ -114,7 +116,8 @@ pub resvs_left_changed : (old new : Tables) → new ≡ record old { wild = new.
     → IsChangedFor (s, x) (state_of old said) (state_of new said)
 resvs_left_changed old new rest s others x said = record {
   place = sym (ap (λ (t : Tables). t.config) rest);
-  senders = λ j off. sym (ap (λ (t : Tables). get t.senders j) rest);
+  senders = λ j off. sym (ap (λ (t : Tables). get t.senders.tspecs j) rest);
+  advertised = λ j off. sym (ap (λ (t : Tables). has t.senders.advertised j) rest);
   paths = λ j off. sym (ap (λ (t : Tables). get t.paths.facts j) rest);
   wants = λ j off. sym (ap (λ (t : Tables). get t.wants j) rest);
   walls = λ j off. sym (ap (λ (t : Tables). get t.walls j) rest);

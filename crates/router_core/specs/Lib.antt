@@ -1,3 +1,4 @@
+pub mod Adverts
 pub mod AnyOrder
 pub mod Confirming
 pub use Rattle.router_arrivals.specs.LeftOver

@@ -8,6 +8,7 @@
 //! order are put in the one that a node wants.
 #![tactic(auto)]
 
+mod adverts;
 mod arriving;
 mod booked;
 mod clearing;

@@ -43,7 +43,7 @@ pub(crate) fn open_tables(alloc: Global, config: Config) -> Result<Tables, NoMem
 
 // Local senders and wants, and countdowns: none.
 fn open_local(alloc: Global) -> Result<(LocalSenders, LocalWants, Countdowns), NoMemory>
-    ensures { IfOk result (λ t. (t.0 ≡ empty) × (t.1 ≡ empty) × (t.2 ≡ empty)) }
+    ensures { IfOk result (λ t. (t.0 ≡ record { tspecs = empty; advertised = empty }) × (t.1 ≡ empty) × (t.2 ≡ empty)) }
 {
     let senders = LocalSenders::open(alloc)?;
     let wants = LocalWants::open(alloc)?;

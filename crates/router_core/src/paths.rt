@@ -1,7 +1,7 @@
 //! Paths and PathTears arrive.
 ghost use Rattle.std.specs.Prelude.{◌≡◌, ℕ, true, fold, is_some, Some, IfOk, IfErr, IfSome};
 ghost use Rattle.std.specs.Option.{option_map};
-ghost use Rattle.rsvp_base.specs.Table.{get};
+ghost use Rattle.rsvp_base.specs.Table.{get, has};
 ghost use Rattle.rsvp_messages.specs.declared.message.Message.TheVariants as message_of;
 ghost use Rattle.router_rules.specs.Act.{act};
 ghost use Rattle.router_rules.specs.Inputs.{Spelt, only_heard};
@@ -11,7 +11,7 @@ ghost use Rattle.router_rules.specs.Rule.{facts_after, heard_after, sent_after};
 ghost use Rattle.router_state.specs.Changes.{path_came, tear_came};
 ghost use Rattle.router_rules.specs.declared.answers.Heard.TheVariants.{Dropped};
 ghost use Rattle.router_state.specs.State.{State, facts_at, facts_of};
-ghost use Rattle.path_sends.specs.Renewing.{AreNews, offer_by};
+ghost use Rattle.path_sends.specs.Renewing.{AreNews, offer_by, own_of};
 ghost use Rattle.path_state.specs.declared.fact.PathFact.{PathFact};
 
 use crate::node::Node;
@@ -68,8 +68,8 @@ impl Node {
         requires sender { message.now.sender ≡ Some (sender, tspec) }
         requires inward { comes_in self.old.place message.now.session iface sender ≡ true }
         requires news { (was : PathFact) → option_map (λ e. e.0) (get self.old.paths (message.now.session, sender)) ≡ Some was
-            → AreNews renewal.now (offer_by (get self.old.senders (message.now.session, sender)) was.tspec was.adspec)
-            (offer_by (get self.old.senders (message.now.session, sender)) tspec message.now.adspec) }
+            → AreNews renewal.now (offer_by (own_of (has self.old.advertised (message.now.session, sender)) (get self.old.senders (message.now.session, sender))) was.tspec was.adspec)
+            (offer_by (own_of (has self.old.advertised (message.now.session, sender)) (get self.old.senders (message.now.session, sender))) tspec message.now.adspec) }
         requires stands { (c : ℕ) → is_path_by (iface, message.now.hop.addr) (get (facts_of c self.old).paths (message.now.session, sender)) ≡ true }
         ensures facts { (c : ℕ) → facts_at c self.new ≡ facts_after self.old.place self.old.place c (path_came iface message.now) (facts_at c self.old) }
         ensures heard { (c : ℕ) → result ≡ heard_after self.old.place c iface message.now.session.group (Spelt (message_of.Path message.now)) (facts_at c self.old) }
@@ -121,15 +121,15 @@ fn renewal_by(
     ensures by { (c : ℕ) (n : State) → n.paths ≡ tables.now.paths.facts
         → is_some result ≡ is_path_by (iface, message.now.hop.addr) (get (facts_of c n).paths (message.now.session, sender)) }
     ensures news { IfSome result (λ r. (was : PathFact) → option_map (λ e. e.0) (get tables.now.paths.facts (message.now.session, sender)) ≡ Some was
-        → AreNews r (offer_by (get tables.now.senders (message.now.session, sender)) was.tspec was.adspec)
-        (offer_by (get tables.now.senders (message.now.session, sender)) tspec message.now.adspec)) }
+        → AreNews r (offer_by (own_of (has tables.now.senders.advertised (message.now.session, sender)) (get tables.now.senders.tspecs (message.now.session, sender))) was.tspec was.adspec)
+        (offer_by (own_of (has tables.now.senders.advertised (message.now.session, sender)) (get tables.now.senders.tspecs (message.now.session, sender))) tspec message.now.adspec)) }
 {
     let session = message.session;
     let Some(was) = path_by(&tables.paths, session, sender, iface, message.hop.addr) else {
         return None;
     };
-    let own = tables.senders.find(session, sender);
-    Some(Renewal::of(&own, was, tspec, &message.adspec))
+    let local = tables.senders.find(session, sender).is_some();
+    Some(Renewal::of(local, was, tspec, &message.adspec))
 }
 
 // The sender that a Path names, and its flow, where the Path came by the interface that leads to it; else why it is dropped.

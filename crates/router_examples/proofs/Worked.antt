@@ -1,9 +1,9 @@
 -- The worked rows hold by computing.
 use Rattle.std.specs.Prelude.{refl}
 use Rattle.std.specs.Int.Count.{count_leading_zeros}
-use Rattle.router_rules.specs.AdspecPath.Composing.{pass_on}
+use Rattle.router_rules.specs.AdspecPath.Composing.{pass_on, start}
 use Rattle.router_rules.specs.AdspecPath.RateBelow.{rate_below}
-use Rattle.router_examples.specs.PathRows.{PathGoesOn, AdspecsAreKept, AdspecsGoOn, PathsDropped, PathsEnd, LocalSenders, PathsMove, FaultsAreAnswered, PathErrorsGoOn}
+use Rattle.router_examples.specs.PathRows.{PathGoesOn, AdspecsAreKept, AdspecsGoOn, PathsDropped, PathsEnd, LocalSenders, LocalSendersAreAdvertised, PathsMove, FaultsAreAnswered, PathErrorsGoOn}
 use Rattle.router_examples.specs.ResvRows.{ResvGoesOn, RefusedRaiseKeepsTheOld, NoPathNoReservation, LeftOut, StylesMergeByTheirUnits, NextHopsMerge, TearsGoOn, GreedyIsBlockaded}
 use Rattle.router_examples.specs.ResvRows.{BlockadedMerge, ErrorsGoOn, ConfirmationsComeBack, MarksWait, CallsAreRefused, FlagsAreByPaths}
 
@@ -77,6 +77,20 @@ local_senders =
       more = refl;
       off = refl;
       not_mine = refl;
+      absent = refl;
+    }
+
+pub local_senders_are_advertised : LocalSendersAreAdvertised
+unfolding start rate_below count_leading_zeros
+local_senders_are_advertised =
+    record {
+      on = refl;
+      again = refl;
+      same = refl;
+      stays = refl;
+      anew = refl;
+      due = refl;
+      narrow = refl;
       absent = refl;
     }
 

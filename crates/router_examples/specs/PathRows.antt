@@ -18,7 +18,7 @@ use Rattle.router_rules.specs.declared.answers.Why.TheVariants as why
 use Rattle.router_rules.specs.declared.answers.LocalErr.TheVariants as local
 use Rattle.router_rules.specs.Calls.{call_refusal}
 use Rattle.router_rules.specs.Facts.{Facts, no_facts}
-use Rattle.router_rules.specs.Inputs.{Came, Send, Unspelt, SendAs, DropAs, Clear, Moved}
+use Rattle.router_rules.specs.Inputs.{Came, Send, Unspelt, SendAs, DropAs, AdvertAs, Clear, Moved}
 use Rattle.router_examples.specs.ThreeRouters.{ip, s1, r1, r2, t1, group, session, first, second, flow, usual, node, node_s, node_r, iface, came, waited, called, path, path_tear, resv_err}
 use Rattle.router_examples.specs.ThreeRouters.{sent, refreshed, error}
 use Rattle.router_rules.specs.Rule.{Outcome, rule}
@@ -136,6 +136,25 @@ pub record LocalSenders : Type 0 where
   pub off : (called (node_s 10000) 5 (DropAs session first) sending.facts).sent ≡ sent 0 group (path_tear s1 first) ∷ []
   pub not_mine : call_refusal (node_r 10000) (SendAs session first usual) no_facts ≡ Some local.NotMine
   pub absent : call_refusal (node_s 10000) (DropAs session second) sending.facts ≡ Some local.Absent
+
+-- what its path offers begins here, by the interface
+abbrev begun : Adspec
+begun = record told { latency = 0 }
+
+abbrev asked : Outcome
+asked = called (node_s 10000) 5 (AdvertAs session first) sending.facts
+
+-- the Path of a local sender says it from then on, and until the sender ends
+pub record LocalSendersAreAdvertised : Type 0 where
+  pub on : asked.sent ≡ sent 0 group (telling (Some begun)) ∷ []
+  pub again : (called (node_s 10000) 6 (AdvertAs session first) asked.facts).sent ≡ []
+  pub same : (called (node_s 10000) 6 (SendAs session first usual) asked.facts).sent ≡ []
+  pub stays : (called (node_s 10000) 7 (SendAs session first usual) (called (node_s 10000) 6 (SendAs session first (flow 2000 2000 64 1500)) asked.facts).facts).sent
+      ≡ sent 0 group (telling (Some begun)) ∷ []
+  pub anew : (called (node_s 10000) 7 (SendAs session first usual) (called (node_s 10000) 6 (DropAs session first) asked.facts).facts).sent ≡ sent 0 group (telling None) ∷ []
+  pub due : (waited (node_s 10000) 30000 15000 0 (waited (node_s 10000) 15000 15000 0 asked.facts).facts).sent ≡ refreshed 0 group (telling (Some begun)) ∷ []
+  pub narrow : (called (node_s 5000) 5 (AdvertAs session first) sending.facts).sent ≡ sent 0 group (telling (Some (record begun { rate = Finite 5000 }))) ∷ []
+  pub absent : call_refusal (node_s 10000) (AdvertAs session second) sending.facts ≡ Some local.Absent
 
 -- a node off the new tree tears its offer down
 pub record PathsMove : Type 0 where

@@ -1,7 +1,7 @@
 //! The rows. Each holds by computing the rule.
 ghost use Rattle.router_examples.specs.BoundRows.{LivedIsWithinBounds};
 ghost use Rattle.router_examples.specs.EdgeRows.{SomeNamesLeave, SendersAreBlockaded, ErrorsTogether, TooManyNames, WantsConflict, HandlesGoBack, RefusalsArrive};
-ghost use Rattle.router_examples.specs.PathRows.{PathGoesOn, AdspecsAreKept, AdspecsGoOn, PathsDropped, PathsEnd, LocalSenders, PathsMove, FaultsAreAnswered, PathErrorsGoOn};
+ghost use Rattle.router_examples.specs.PathRows.{PathGoesOn, AdspecsAreKept, AdspecsGoOn, PathsDropped, PathsEnd, LocalSenders, LocalSendersAreAdvertised, PathsMove, FaultsAreAnswered, PathErrorsGoOn};
 ghost use Rattle.router_examples.specs.ResvRows.{ResvGoesOn, RefusedRaiseKeepsTheOld, NoPathNoReservation, LeftOut, StylesMergeByTheirUnits, NextHopsMerge, TearsGoOn, GreedyIsBlockaded};
 ghost use Rattle.router_examples.specs.ResvRows.{BlockadedMerge, ErrorsGoOn, ConfirmationsComeBack, MarksWait, CallsAreRefused, FlagsAreByPaths};
 
@@ -17,7 +17,7 @@ pub fn adspecs_are_kept()
     ensures { AdspecsAreKept }
 {}
 
-/// What is told of the path goes on, as the interface makes it, and a Path goes on where that is another.
+/// A Path is sent on with the ADSPEC that the interface composes of the kept one, and is sent again where that becomes another.
 #[tactic(auto, using(crate::proofs::Worked::adspecs_go_on))]
 pub fn adspecs_go_on()
     ensures { AdspecsGoOn }
@@ -39,6 +39,12 @@ pub fn paths_end()
 #[tactic(auto, using(crate::proofs::Worked::local_senders))]
 pub fn local_senders()
     ensures { LocalSenders }
+{}
+
+/// A local sender that is advertised says from then on what its path offers, until it ends.
+#[tactic(auto, using(crate::proofs::Worked::local_senders_are_advertised))]
+pub fn local_senders_are_advertised()
+    ensures { LocalSendersAreAdvertised }
 {}
 
 /// A node that leaves a tree tears its offer down, and one that enters it offers.

@@ -51,7 +51,7 @@ module _ (ms : ℕ) (n : State) (k : SenderKey) (dies : has (dying_paths ms n.pa
       there = get-changed path_keys (path_at c) n.paths k ∙ ap (λ w. then_do w (path_at c k)) was.1
 
       by : (v : Option TokenBucket) (w : Option PathState) → is_some w ≡ true
-          → is_some (or_else {X = Offer} (option_map own_offer v) (option_map path_offer w)) ≡ true
+          → is_some (or_else {X = Offer} (option_map (own_offer (has n.advertised k)) v) (option_map path_offer w)) ≡ true
       by (Some t) w e = refl
       by None (Some x) e = refl
       by None None e = cc

@@ -96,7 +96,7 @@ module _ (ss : List Session) (p : NodeConfig) (n : State) (at : IsMovedOver ss n
     known_of q o e = has-known f q.0 q.1 ∙ by (get f.senders q) (get f.paths q) ∙ ap is_some e
       where
         by : (v : Option TokenBucket) (w : Option PathState)
-            → (is_some v || is_some w) ≡ is_some (or_else {X = Offer} (option_map own_offer v) (option_map path_offer w))
+            → (is_some v || is_some w) ≡ is_some (or_else {X = Offer} (option_map (own_offer (has f.advertised q)) v) (option_map path_offer w))
         by (Some v) w = refl
         by None (Some w) = refl
         by None None = refl

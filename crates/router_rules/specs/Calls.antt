@@ -8,6 +8,7 @@ use Rattle.rsvp_base.specs.declared.style.StyleKind.TheVariants.{Wild, Fixed, Sh
 use Rattle.rsvp_base.specs.declared.style.Unit.TheVariants.{One, Of}
 use Rattle.rsvp_base.specs.Orders.{Names, senders, units}
 use Rattle.rsvp_base.specs.SessionLimits.{has_room_at}
+use Rattle.rsvp_base.specs.Sets.{Set, with_key}
 use Rattle.rsvp_base.specs.Table.{Table, empty, has, keys, kept, put_in, without, size, values, with_rows}
 use Rattle.rsvp_base.specs.TokenBucket.{TokenBucket}
 use Rattle.rsvp_messages.specs.Units.{only}
@@ -20,7 +21,7 @@ use Rattle.router_rules.specs.declared.answers.StaleErr.{StaleErr}
 use Rattle.router_rules.specs.declared.answers.StaleErr.TheVariants as stale
 use Rattle.router_rules.specs.Books.{fits, book, refused}
 use Rattle.router_rules.specs.Facts.{Facts, Paths, ResvTables, Walls, Want, WantKey, Wants, sender_keys, no_resvs, resvs_of, table_of, with_table, with_resvs, wants_in}
-use Rattle.router_rules.specs.Inputs.{Change, only_heard, Local, SendAs, DropAs, WantAs, QuitAll, Stale, StalePath, StaleResv, StaleWall}
+use Rattle.router_rules.specs.Inputs.{Change, only_heard, Local, SendAs, DropAs, AdvertAs, WantAs, QuitAll, Stale, StalePath, StaleResv, StaleWall}
 use Rattle.router_rules.specs.NodeConfig.{NodeConfig, is_own, is_session}
 use Rattle.router_rules.specs.Requests.{is_style}
 
@@ -47,12 +48,22 @@ wanted s Shared names flow mark = ((s, One), record { style = Shared; part = rec
 abbrev pub senders_with : Local → SendersOf → SendersOf
 senders_with (SendAs s x tspec) t = put_in t (s, x) tspec
 senders_with (DropAs s x) t = without t (s, x)
+senders_with (AdvertAs s x) t = t
 senders_with (WantAs s st names flow mark) t = t
 senders_with (QuitAll s) t = t
+
+-- a sender is advertised until it is dropped
+abbrev pub advertised_with : Local → Set sender_keys → Set sender_keys
+advertised_with (SendAs s x tspec) t = t
+advertised_with (DropAs s x) t = without t (s, x)
+advertised_with (AdvertAs s x) t = with_key t (s, x)
+advertised_with (WantAs s st names flow mark) t = t
+advertised_with (QuitAll s) t = t
 
 abbrev pub wants_with : Local → Wants → Wants
 wants_with (SendAs s x tspec) t = t
 wants_with (DropAs s x) t = t
+wants_with (AdvertAs s x) t = t
 wants_with (WantAs s st names flow mark) t = with_rows t (wanted s st names flow mark)
 wants_with (QuitAll s) t = kept (λ k. not (is_session k.0 s)) t
 
@@ -60,6 +71,7 @@ wants_with (QuitAll s) t = kept (λ k. not (is_session k.0 s)) t
 abbrev pub call_refusal : NodeConfig → Local → Facts → Option LocalErr
 call_refusal p (SendAs s x tspec) f = needs (is_own p x.addr) local.NotMine (needs (has_room_at senders (put_in f.senders (s, x) tspec) s) local.Full None)
 call_refusal p (DropAs s x) f = needs (has f.senders (s, x)) local.Absent None
+call_refusal p (AdvertAs s x) f = needs (has f.senders (s, x)) local.Absent None
 call_refusal p (WantAs s st names flow mark) f =
     needs (not (list_any (λ w. not (is_style w.style st)) (values (wants_in f s)))) local.Style
     (needs (has_room_at units (with_rows f.wants (wanted s st names flow mark)) s) local.Full None)
@@ -67,7 +79,12 @@ call_refusal p (QuitAll s) f = needs (nat_lt 0 (size (wants_in f s))) local.Abse
 
 abbrev pub act_call : NodeConfig → Local → Facts → Change
 act_call p l f =
-    only_heard heard.Taken (record f { senders = unless (call_refusal p l f) (senders_with l f.senders) f.senders; wants = unless (call_refusal p l f) (wants_with l f.wants) f.wants })
+    only_heard heard.Taken
+    (record f {
+      senders = unless (call_refusal p l f) (senders_with l f.senders) f.senders;
+      advertised = unless (call_refusal p l f) (advertised_with l f.advertised) f.advertised;
+      wants = unless (call_refusal p l f) (wants_with l f.wants) f.wants;
+    })
 
 -- ---- left-over facts
 abbrev pub paths_left : Stale → Paths → Paths

@@ -11,6 +11,7 @@ use Rattle.rsvp_base.specs.declared.style.StyleKind.TheVariants.{Wild, Fixed, Sh
 use Rattle.rsvp_base.specs.declared.style.Unit.{Unit as UnitOf}
 use Rattle.rsvp_base.specs.Keys.{Keys, pairs}
 use Rattle.rsvp_base.specs.Orders.{sessions, senders, units}
+use Rattle.rsvp_base.specs.Sets.{Set}
 use Rattle.rsvp_base.specs.Table.{Table, empty}
 use Rattle.rsvp_base.specs.TokenBucket.{TokenBucket}
 use Rattle.rsvp_base.specs.Under.{under}
@@ -98,6 +99,8 @@ no_resvs = record { wild = empty; fixed = empty; shared = empty }
 pub record Facts : Type 0 where
   -- what local senders send
   pub senders : Table sender_keys TokenBucket
+  -- of which their own node tells what the path offers (RFC 2210, 3.3)
+  pub advertised : Set sender_keys
   -- what local receivers want
   pub wants : Wants
   pub paths : Paths
@@ -107,7 +110,7 @@ pub record Facts : Type 0 where
   pub due : Table sessions ℕ
 
 abbrev pub no_facts : Facts
-no_facts = record { senders = empty; wants = empty; paths = empty; resvs = no_resvs; walls = empty; due = empty }
+no_facts = record { senders = empty; advertised = empty; wants = empty; paths = empty; resvs = no_resvs; walls = empty; due = empty }
 
 abbrev pub resvs_of : StyleKind → Facts → Resvs
 resvs_of st f = table_of st f.resvs

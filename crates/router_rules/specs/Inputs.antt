@@ -30,6 +30,8 @@ pub data Arrival : Type 0 where
 pub data Local : Type 0 where
   SendAs : Session → Sender → TokenBucket → Local
   DropAs : Session → Sender → Local
+  -- the node tells what the path of a local sender offers, from now on
+  AdvertAs : Session → Sender → Local
   -- a style, senders and a flow; and whether a confirmation is wanted
   WantAs : Session → StyleKind → Names → TokenBucket → Bool → Local
   QuitAll : Session → Local

@@ -16,6 +16,7 @@ pub mod Forgetting
 pub mod Sends
 pub mod Rule
 pub mod Flags
+pub mod Adverts
 pub mod Fronts
 pub mod Bounds
 pub mod Steps

@@ -9,7 +9,7 @@ use Rattle.rsvp_base.specs.declared.session.Sender.{Sender}
 use Rattle.rsvp_base.specs.declared.session.Session.{Session}
 use Rattle.rsvp_base.specs.Keys.{Keys, numbers, by, pairs}
 use Rattle.rsvp_base.specs.Orders.{sessions, senders}
-use Rattle.rsvp_base.specs.Table.{Table, get, keys}
+use Rattle.rsvp_base.specs.Table.{Table, get, has, keys}
 use Rattle.rsvp_base.specs.TokenBucket.{TokenBucket}
 use Rattle.rsvp_messages.specs.RsvpObjects.ObjectFields.declared.adspec.Adspec.{Adspec}
 use Rattle.style_rules.specs.Merge.{table_at}
@@ -44,9 +44,14 @@ abbrev pub advert_of : Option Adspec → Advert
 advert_of None = Silent
 advert_of (Some kept) = Passes kept
 
+-- where a local sender is advertised, what is told begins here
+abbrev pub own_advert : Bool → Advert
+own_advert true = Begins
+own_advert false = Silent
+
 -- of a local sender by its own words, and of a sender that has a path by those of the path
-abbrev pub own_offer : TokenBucket → Offer
-own_offer flow = record { tspec = flow; local = true; advert = Silent }
+abbrev pub own_offer : Bool → TokenBucket → Offer
+own_offer advertised flow = record { tspec = flow; local = true; advert = own_advert advertised }
 
 abbrev pub path_offer : PathState → Offer
 path_offer path = record { tspec = path.tspec; local = false; advert = advert_of path.adspec }
@@ -59,7 +64,8 @@ advert_by on (Passes kept) = option_map (pass_on kept) on
 
 -- of a local sender its own words, else those of its path
 abbrev pub offer_at : Facts → OfferKey → Option Offer
-offer_at f k = or_else (option_map own_offer (get f.senders (k.session, k.sender))) (option_map path_offer (get f.paths (k.session, k.sender)))
+offer_at f k =
+    or_else (option_map (own_offer (has f.advertised (k.session, k.sender))) (get f.senders (k.session, k.sender))) (option_map path_offer (get f.paths (k.session, k.sender)))
 
 abbrev pub ways_of : NodeConfig → SenderKey → List OfferKey
 ways_of p k = each (λ i. record { session = k.0; sender = k.1; iface = i }) (outward p k.0 k.1)

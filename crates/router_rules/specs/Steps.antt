@@ -5,7 +5,7 @@ use Rattle.rsvp_base.specs.Orders.{sessions, Names}
 use Rattle.rsvp_base.specs.Sets.{Set, IsWithin}
 use Rattle.router_rules.specs.Act.{act}
 use Rattle.router_rules.specs.Facts.{Facts, ResvState, resvs_of}
-use Rattle.router_rules.specs.Inputs.{Input, Call, Wait, Clear, Came, Moved, Send, Arrival, Spelt, Unspelt, Local, SendAs, DropAs, WantAs, QuitAll, Stale, StalePath, StaleResv, StaleWall}
+use Rattle.router_rules.specs.Inputs.{Input, Call, Wait, Clear, Came, Moved, Send, Arrival, Spelt, Unspelt, Local, SendAs, DropAs, AdvertAs, WantAs, QuitAll, Stale, StalePath, StaleResv, StaleWall}
 use Rattle.router_rules.specs.NodeConfig.{NodeConfig, lifetime, period, wall_lifetime}
 use Rattle.router_rules.specs.Rule.{rule}
 use Rattle.rsvp_base.specs.declared.style.StyleKind.{StyleKind}
@@ -78,6 +78,7 @@ IsFitList Shared names = (0 < size names) × (size names ≤ 16)
 abbrev pub IsFitCall : Local → Type 0
 IsFitCall (SendAs s x tspec) = IsSound tspec
 IsFitCall (DropAs s x) = Unit {0}
+IsFitCall (AdvertAs s x) = Unit {0}
 IsFitCall (WantAs s st names flow mark) = IsFitList st names × IsSound flow
 IsFitCall (QuitAll s) = Unit {0}
 

@@ -2,6 +2,7 @@
 use Rattle.std.specs.Prelude.{ℕ, Bool, true, false, cond}
 use Rattle.path_state.specs.declared.fact.PathFact.{PathFact}
 use Rattle.rsvp_base.specs.Orders.{sessions}
+use Rattle.rsvp_base.specs.Sets.{with_key}
 use Rattle.rsvp_base.specs.Table.{Table, has, put_in, without}
 use Rattle.rsvp_base.specs.TokenBucket.{TokenBucket}
 use Rattle.rsvp_base.specs.declared.session.Session.{Session}
@@ -25,7 +26,10 @@ abbrev pub senders_put : State → SenderKey → TokenBucket → State
 senders_put n k tspec = record n { senders = put_in n.senders k tspec }
 
 abbrev pub senders_without : State → SenderKey → State
-senders_without n k = record n { senders = without n.senders k }
+senders_without n k = record n { senders = without n.senders k; advertised = without n.advertised k }
+
+abbrev pub advertised_put : State → SenderKey → State
+advertised_put n k = record n { advertised = with_key n.advertised k }
 
 -- ---- countdowns
 -- one starts where there is none

@@ -3,6 +3,7 @@
 use Rattle.std.specs.Prelude.{◌≡◌, ℕ, ◌+◌, nat_lt, true, false, Option, Some}
 use Rattle.std.specs.Option.{unwrap_or}
 use Rattle.rsvp_base.specs.Orders.{sessions}
+use Rattle.rsvp_base.specs.Sets.{Set}
 use Rattle.rsvp_base.specs.Table.{Table, changed, empty, get, has, size}
 use Rattle.rsvp_base.specs.TokenBucket.{TokenBucket}
 use Rattle.rsvp_base.specs.declared.session.Session.{Session}
@@ -34,6 +35,7 @@ said_at m l = unwrap_or (get m l) empty
 pub record State : Type 0 where
   pub place : NodeConfig
   pub senders : Table sender_keys TokenBucket
+  pub advertised : Set sender_keys
   pub wants : Wants
   pub paths : Table path_keys (PathFact × ℕ)
   pub wild : ResvFacts
@@ -51,7 +53,7 @@ table_in Shared n = n.shared
 
 -- a node without facts
 abbrev pub no_state : NodeConfig → State
-no_state p = record { place = p; senders = empty; wants = empty; paths = empty; wild = empty; fixed = empty; shared = empty; walls = empty; due = empty; said = empty }
+no_state p = record { place = p; senders = empty; advertised = empty; wants = empty; paths = empty; wild = empty; fixed = empty; shared = empty; walls = empty; due = empty; said = empty }
 
 -- ---- from what is left to moments, at clock c
 abbrev pub path_at : ℕ → SenderKey → PathFact × ℕ → Option PathState
@@ -69,6 +71,7 @@ due_at c s left = Some (c + left)
 abbrev pub facts_of : ℕ → State → Facts
 facts_of c n = record {
   senders = n.senders;
+  advertised = n.advertised;
   wants = n.wants;
   paths = changed (path_at c) n.paths;
   resvs = record { wild = changed (resv_at c) n.wild; fixed = changed (resv_at c) n.fixed; shared = changed (resv_at c) n.shared };

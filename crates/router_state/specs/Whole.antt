@@ -11,7 +11,8 @@ use Rattle.router_state.specs.declared.tables.Tables.{Tables}
 abbrev pub state_of : Tables → Said → State
 state_of t said = record {
   place = t.config;
-  senders = t.senders;
+  senders = t.senders.tspecs;
+  advertised = t.senders.advertised;
   wants = t.wants;
   paths = t.paths.facts;
   wild = t.wild.facts;

@@ -69,6 +69,7 @@ range_short period field.Name plain = omega arith
 range_short period field.Host plain = omega arith
 range_short period field.Capacity plain = omega arith
 range_short period field.Mtu plain = omega arith
+range_short period field.Latency plain = omega arith
 range_short period field.Group plain = omega arith
 range_short period field.Address plain = omega arith
 range_short period field.Session plain = omega arith

@@ -3,7 +3,7 @@ use Rattle.std.specs.Prelude.{ℕ, List, ◌++◌, codes}
 use Rattle.std.specs.Fmt.{decimal}
 use Rattle.script_grammar.specs.Draft.{lifetime_of_period, wall_lifetime_of_period}
 use Rattle.script_grammar.specs.declared.field.Field.{Field}
-use Rattle.script_grammar.specs.declared.field.Field.TheVariants.{Period, Seed, Name, Host, Capacity, Mtu, Group, Address, Session, Sender, Senders, Addresses, Anyone, Style, Flow, Left}
+use Rattle.script_grammar.specs.declared.field.Field.TheVariants.{Period, Seed, Name, Host, Capacity, Mtu, Latency, Group, Address, Session, Sender, Senders, Addresses, Anyone, Style, Flow, Left}
 use Rattle.script_grammar.specs.declared.field.Field.TheVariants.{WallLeft, Sub, Target, Switch, Digits, Confirm, Wait, Passes, Rounds, Place}
 
 -- its form
@@ -14,6 +14,7 @@ form_text Name = codes "a name is 1 to 16 lower-case letters, digits and _, begi
 form_text Host = codes "an address is four numbers up to 255 joined by dots"
 form_text Capacity = codes "a number is 0, or 1 to 20 digits of which the first is not 0"
 form_text Mtu = codes "a number is 0, or 1 to 20 digits of which the first is not 0"
+form_text Latency = codes "microseconds, without a unit: a number is 0, or 1 to 20 digits of which the first is not 0"
 form_text Group = codes "an address is four numbers up to 255 joined by dots"
 form_text Address = codes "an address is four numbers up to 255 joined by dots"
 form_text Session = codes "a session is GROUP/PROTO/PORT, as 239.1.1.1/17/5004"
@@ -42,6 +43,7 @@ range_text period Seed = codes "a number up to 18446744073709551615"
 range_text period Host = codes "each part of an address is at most 255, and an end has neither 0.0.0.0 nor a group, 224.0.0.0 to 239.255.255.255"
 range_text period Capacity = codes "a number up to 70368744177663"
 range_text period Mtu = codes "a number from 1 to 65535"
+range_text period Latency = codes "a number up to 4294967295"
 range_text period Group = codes "a group is an address from 224.0.0.0 to 239.255.255.255"
 range_text period Address = codes "each part of an address is at most 255"
 range_text period Session = codes "a group is from 224.0.0.0 to 239.255.255.255, a protocol from 1 to 255, a port at most 65535"

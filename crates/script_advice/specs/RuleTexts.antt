@@ -1,8 +1,8 @@
 -- What a rule says of the lines of a kind, and of which word alone, if it is one.
 use Rattle.std.specs.Prelude.{ℕ, List, Option, None, Some, codes}
 use Rattle.script_grammar.specs.declared.kind.Kind.{Kind}
-use Rattle.script_grammar.specs.declared.kind.Kind.TheVariants.{Period, Seed, Node, End, Link, Hop, StalePath, StaleResv, WildResv, HopBlockade, SenderBlockade, Send, Drop, Want, WildWant}
-use Rattle.script_grammar.specs.declared.kind.Kind.TheVariants.{Quit, Reroute}
+use Rattle.script_grammar.specs.declared.kind.Kind.TheVariants.{Period, Seed, Node, End, Latency, Link, Hop, StalePath, StaleResv, WildResv, HopBlockade, SenderBlockade, Send, Drop, Want, WildWant}
+use Rattle.script_grammar.specs.declared.kind.Kind.TheVariants.{Advert, Adverts, Quit, Reroute}
 use Rattle.script_advice.specs.declared.rule.Rule.{Rule}
 use Rattle.script_advice.specs.declared.rule.Rule.TheVariants.{InTime, InRange, Known, New, NewName, NewAddress, NewSender, WithinLimits, OneSender, FewSenders, FewSessions, LoopFree}
 
@@ -11,6 +11,7 @@ in_time_text Period = codes "a period and a seed come before the first node"
 in_time_text Seed = codes "a period and a seed come before the first node"
 in_time_text Node = codes "what is declared comes before what is left over and what happens"
 in_time_text End = codes "what is declared comes before what is left over and what happens"
+in_time_text Latency = codes "what is declared comes before what is left over and what happens"
 in_time_text Link = codes "what is declared comes before what is left over and what happens"
 in_time_text Hop = codes "what is declared comes before what is left over and what happens"
 in_time_text kind = codes "what is left over comes before what happens"
@@ -25,6 +26,7 @@ known_text StalePath = codes "no end of NODE has this name"
 known_text HopBlockade = codes "no end of NODE has this name"
 known_text Send = codes "no end of NODE has the address of this sender"
 known_text Drop = codes "NODE does not send as this sender in this session"
+known_text Advert = codes "NODE does not send as this sender in this session"
 known_text Quit = codes "NODE asks for nothing in this session"
 known_text Reroute = codes "no hop line has this GROUP and SOURCE"
 known_text kind = codes "an earlier line declares each node and each end"
@@ -33,6 +35,7 @@ abbrev pub new_text : Kind → List ℕ
 new_text Period = codes "an earlier line gives the period"
 new_text Seed = codes "an earlier line gives the seed"
 new_text Node = codes "an earlier line declares a node of this name"
+new_text Latency = codes "an earlier line gives the latency of this end"
 new_text StalePath = codes "a path of one session and sender is left over at a node once"
 new_text HopBlockade = codes "a blockade of one session and hop is left over at a node once"
 new_text SenderBlockade = codes "a blockade of one session and sender is left over at a node once"
@@ -53,6 +56,7 @@ within_limits_text Send = codes "at most 16 senders of one session send at once"
 within_limits_text Want = codes "a node has at most 16 wishes in one session"
 within_limits_text WildWant = codes "a node has at most 16 wishes in one session"
 within_limits_text Reroute = codes "all trees together have at most 8192 hops"
+within_limits_text Adverts = codes "a script has at most 16 adverts lines"
 within_limits_text kind = codes "a script has at most 16 report and flags lines"
 
 abbrev pub loop_free_text : Kind → List ℕ
@@ -79,11 +83,13 @@ known_word StalePath = Some 4
 known_word HopBlockade = Some 4
 known_word Send = Some 3
 known_word Drop = Some 3
+known_word Advert = Some 3
 known_word Quit = Some 2
 known_word kind = None
 
 abbrev pub new_word : Kind → Option ℕ
 new_word Node = Some 1
+new_word Latency = Some 1
 new_word Want = Some 4
 new_word kind = None
 

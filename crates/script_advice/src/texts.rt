@@ -24,6 +24,8 @@ pub fn form_text(field: Field) -> &'static [u8]
         Field::Host => b"an address is four numbers up to 255 joined by dots",
         Field::Capacity => b"a number is 0, or 1 to 20 digits of which the first is not 0",
         Field::Mtu => b"a number is 0, or 1 to 20 digits of which the first is not 0",
+        Field::Latency =>
+            b"microseconds, without a unit: a number is 0, or 1 to 20 digits of which the first is not 0",
         Field::Group => b"an address is four numbers up to 255 joined by dots",
         Field::Address => b"an address is four numbers up to 255 joined by dots",
         Field::Session => b"a session is GROUP/PROTO/PORT, as 239.1.1.1/17/5004",
@@ -73,6 +75,7 @@ pub fn put_range(out: &mut Vec<u8>, period: u32, field: Field) -> Result<(), NoM
         ),
         Field::Capacity => put(out, b"a number up to 70368744177663"),
         Field::Mtu => put(out, b"a number from 1 to 65535"),
+        Field::Latency => put(out, b"a number up to 4294967295"),
         Field::Group => put(
             out,
             b"a group is an address from 224.0.0.0 to 239.255.255.255",
@@ -117,6 +120,7 @@ pub fn usage_text(kind: Kind) -> &'static [u8]
         Kind::Seed => b"a seed line is: seed N",
         Kind::Node => b"a node line is: node NAME",
         Kind::End => b"an end line is: end NAME NODE ADDR CAPACITY MTU",
+        Kind::Latency => b"a latency line is: latency END MICROSECONDS",
         Kind::Link => b"a link line is: link END END .., with two to eight ends",
         Kind::Hop => b"a hop line is: hop GROUP SOURCE END END",
         Kind::StalePath =>
@@ -133,6 +137,7 @@ pub fn usage_text(kind: Kind) -> &'static [u8]
             b"a stale-blockade line of a sender is: stale-blockade NODE SESSION sender SENDER SUB FLOW LEFT",
         Kind::Send => b"a send line is: send NODE SESSION SENDER FLOW",
         Kind::Drop => b"a drop line is: drop NODE SESSION SENDER",
+        Kind::Advert => b"an advert line is: advert NODE SESSION SENDER",
         Kind::Want =>
             b"a want line is: want NODE SESSION WF * FLOW [confirm], or want NODE SESSION FF|SE SENDERS FLOW [confirm]",
         Kind::WildWant =>
@@ -149,6 +154,7 @@ pub fn usage_text(kind: Kind) -> &'static [u8]
         Kind::Trace => b"a trace line is: trace on, or trace off",
         Kind::Report => b"a report line is: report, or report END",
         Kind::Flags => b"a flags line is: flags",
+        Kind::Adverts => b"an adverts line is: adverts",
         Kind::Reroute =>
             b"a reroute line is: reroute GROUP SOURCE END END .., a pair of ends for each hop",
     }
@@ -186,6 +192,7 @@ fn in_time_text(kind: Kind) -> &'static [u8]
         Kind::Seed => b"a period and a seed come before the first node",
         Kind::Node => b"what is declared comes before what is left over and what happens",
         Kind::End => b"what is declared comes before what is left over and what happens",
+        Kind::Latency => b"what is declared comes before what is left over and what happens",
         Kind::Link => b"what is declared comes before what is left over and what happens",
         Kind::Hop => b"what is declared comes before what is left over and what happens",
         _ => b"what is left over comes before what happens",
@@ -203,6 +210,7 @@ fn known_text(kind: Kind) -> &'static [u8]
         Kind::HopBlockade => b"no end of NODE has this name",
         Kind::Send => b"no end of NODE has the address of this sender",
         Kind::Drop => b"NODE does not send as this sender in this session",
+        Kind::Advert => b"NODE does not send as this sender in this session",
         Kind::Quit => b"NODE asks for nothing in this session",
         Kind::Reroute => b"no hop line has this GROUP and SOURCE",
         _ => b"an earlier line declares each node and each end",
@@ -217,6 +225,7 @@ fn new_text(kind: Kind) -> &'static [u8]
         Kind::Period => b"an earlier line gives the period",
         Kind::Seed => b"an earlier line gives the seed",
         Kind::Node => b"an earlier line declares a node of this name",
+        Kind::Latency => b"an earlier line gives the latency of this end",
         Kind::StalePath => b"a path of one session and sender is left over at a node once",
         Kind::HopBlockade => b"a blockade of one session and hop is left over at a node once",
         Kind::SenderBlockade => b"a blockade of one session and sender is left over at a node once",
@@ -246,6 +255,7 @@ fn within_limits_text(kind: Kind) -> &'static [u8]
         Kind::Want => b"a node has at most 16 wishes in one session",
         Kind::WildWant => b"a node has at most 16 wishes in one session",
         Kind::Reroute => b"all trees together have at most 8192 hops",
+        Kind::Adverts => b"a script has at most 16 adverts lines",
         _ => b"a script has at most 16 report and flags lines",
     }
 }
@@ -278,6 +288,7 @@ fn known_word(kind: Kind) -> Option<usize>
         Kind::HopBlockade => Some(4),
         Kind::Send => Some(3),
         Kind::Drop => Some(3),
+        Kind::Advert => Some(3),
         Kind::Quit => Some(2),
         _ => None,
     }
@@ -288,6 +299,7 @@ fn new_word(kind: Kind) -> Option<usize>
 {
     match kind {
         Kind::Node => Some(1),
+        Kind::Latency => Some(1),
         Kind::Want => Some(4),
         _ => None,
     }
@@ -318,5 +330,5 @@ pub fn first_text() -> &'static [u8]
     ensures text { result.now ≡ first_text }
     ensures few { length result.now ≤ most_wanted }
 {
-    b"a line begins with period, seed, node, end, link, hop, stale-path, stale-resv, stale-blockade, send, drop, want, quit, wait, pass, rounds, deliver, lose, copy, clear, inject, reroute, trace, report or flags, and a comment with # as its very first byte"
+    b"a line begins with period, seed, node, end, latency, link, hop, stale-path, stale-resv, stale-blockade, send, advert, drop, want, quit, wait, pass, rounds, deliver, lose, copy, clear, inject, reroute, trace, report, flags or adverts, and a comment with # as its very first byte"
 }

@@ -46,8 +46,13 @@ pub fn add(state: &mut ScriptState, line: ScriptLine) -> Result<Option<Event>, S
         ScriptLine::Trace(on) => Ok(Some(script_rules::add_trace(state, on)?)),
         ScriptLine::Report => Ok(Some(script_rules::add_report(state)?)),
         ScriptLine::Flags => Ok(Some(script_rules::add_flags(state)?)),
+        ScriptLine::Adverts => Ok(Some(script_rules::add_adverts(state)?)),
         ScriptLine::End(line) => {
             script_rules::add_end(state, line)?;
+            Ok(None)
+        }
+        ScriptLine::Latency(line) => {
+            script_rules::add_latency(state, line)?;
             Ok(None)
         }
         ScriptLine::Link(names) => {
@@ -75,6 +80,7 @@ pub fn add(state: &mut ScriptState, line: ScriptLine) -> Result<Option<Event>, S
             Ok(None)
         }
         ScriptLine::Send(line) => Ok(Some(script_rules::add_send(state, line)?)),
+        ScriptLine::Advert(line) => Ok(Some(script_rules::add_advert(state, line)?)),
         ScriptLine::Drop(line) => Ok(Some(script_rules::add_drop(state, line)?)),
         ScriptLine::Want(line) => Ok(Some(script_rules::add_want(state, line)?)),
         ScriptLine::Quit(line) => Ok(Some(script_rules::add_quit(state, line)?)),

@@ -207,7 +207,11 @@ impl<K: Sink + Drop> Recorder<K> {
                 self.touch_all();
                 self.show_sent(world, From::Anyone)?
             }
-            Event::Report { .. } | Event::Flags => put_report(&mut self.text, self.clock, text)?,
+            Event::Report { .. } | Event::Flags | Event::Adverts => put_report(
+                &mut self.text,
+                self.clock,
+                text,
+            )?,
             _ => {}
         }
         self.show_stand(world)

@@ -16,9 +16,9 @@ use Rattle.script_grammar.specs.Kinds.{declared_kind, flight_kind, left_kind, no
 use Rattle.script_grammar.specs.KindLaws.{are_formed}
 use Rattle.script_grammar.specs.declared.kind.Kind.{Kind}
 use Rattle.script_grammar.specs.declared.kind.Kind.TheVariants as kind
-use Rattle.script_grammar.proofs.Formed.{formed, some_where, named, said_of, still_wrong, none_of, apart, longer, period_formed, seed_formed, node_formed, end_formed, hop_formed}
-use Rattle.script_grammar.proofs.Formed.{stale_path_formed, send_formed, drop_formed, quit_formed, clear_formed, wait_formed, rounds_formed, deliver_formed, lose_formed, copy_formed}
-use Rattle.script_grammar.proofs.Formed.{inject_formed, trace_formed, report_formed, pass_formed, flags_formed, link_formed, reroute_formed}
+use Rattle.script_grammar.proofs.Formed.{formed, some_where, named, said_of, still_wrong, none_of, apart, longer, period_formed, seed_formed, node_formed, end_formed, latency_formed, hop_formed}
+use Rattle.script_grammar.proofs.Formed.{stale_path_formed, send_formed, drop_formed, advert_formed, quit_formed, clear_formed, wait_formed, rounds_formed, deliver_formed, lose_formed, copy_formed}
+use Rattle.script_grammar.proofs.Formed.{inject_formed, trace_formed, report_formed, pass_formed, flags_formed, adverts_formed, link_formed, reroute_formed}
 
 -- ---- words that are read by a style
 -- a style that is not WF
@@ -205,7 +205,8 @@ other_formed first behind =
     by_kind behind (bytes_eq first (codes "trace")) kind.Trace _ _ _ (trace_formed behind) (
     by_kind behind (bytes_eq first (codes "report")) kind.Report _ _ _ (report_formed behind) (
     by_kind behind (bytes_eq first (codes "flags")) kind.Flags _ _ _ (flags_formed behind) (
-    by_kind behind (bytes_eq first (codes "reroute")) kind.Reroute _ _ _ (reroute_formed behind) (refl))))
+    by_kind behind (bytes_eq first (codes "adverts")) kind.Adverts _ _ _ (adverts_formed behind) (
+    by_kind behind (bytes_eq first (codes "reroute")) kind.Reroute _ _ _ (reroute_formed behind) (refl)))))
 
 flight_formed : (first : List ℕ) (behind : List (List ℕ))
     → is_some (said_in_flight first behind) ≡ are_formed (option_map (λ kind. refined kind (third_of behind)) (flight_kind first)) behind
@@ -226,10 +227,11 @@ unfolding said_at_node node_kind
 at_node_formed first behind =
     by_kind behind (bytes_eq first (codes "send")) kind.Send _ _ _ (send_formed behind) (
     by_kind behind (bytes_eq first (codes "drop")) kind.Drop _ _ _ (drop_formed behind) (
+    by_kind behind (bytes_eq first (codes "advert")) kind.Advert _ _ _ (advert_formed behind) (
     by_kind behind (bytes_eq first (codes "want")) kind.Want _ _ _ (want_formed behind) (
     by_kind behind (bytes_eq first (codes "quit")) kind.Quit _ _ _ (quit_formed behind) (
     by_kind behind (bytes_eq first (codes "clear")) kind.Clear _ _ _ (clear_formed behind) (
-    flight_formed first behind)))))
+    flight_formed first behind))))))
 
 left_over_formed : (first : List ℕ) (behind : List (List ℕ))
     → is_some (said_left_over first behind) ≡ are_formed (option_map (λ kind. refined kind (third_of behind)) (left_kind first)) behind
@@ -248,6 +250,7 @@ said_by_formed first behind =
     by_kind behind (bytes_eq first (codes "seed")) kind.Seed _ _ _ (seed_formed behind) (
     by_kind behind (bytes_eq first (codes "node")) kind.Node _ _ _ (node_formed behind) (
     by_kind behind (bytes_eq first (codes "end")) kind.End _ _ _ (end_formed behind) (
+    by_kind behind (bytes_eq first (codes "latency")) kind.Latency _ _ _ (latency_formed behind) (
     by_kind behind (bytes_eq first (codes "link")) kind.Link _ _ _ (link_formed behind) (
     by_kind behind (bytes_eq first (codes "hop")) kind.Hop _ _ _ (hop_formed behind) (
-    left_over_formed first behind))))))
+    left_over_formed first behind)))))))

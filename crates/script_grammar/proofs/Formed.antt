@@ -8,8 +8,8 @@ use Rattle.rsvp_base.specs.EndNames.{is_name, name_of}
 use Rattle.script_words.specs.Addresses.{quad_of}
 use Rattle.script_words.specs.Sessions.{session_of, sender_of}
 use Rattle.script_words.specs.Flows.{flow_of}
-use Rattle.script_grammar.specs.LineKinds.{bytes_of, numbered, pairs_of, trace_line, report_line, pass_line, flags_line, link_line, reroute_line, period_line, seed_line, node_line}
-use Rattle.script_grammar.specs.LineKinds.{end_line, hop_line, path_of, stale_path_line, send_line, drop_line, quit_line, clear_line, inject_line}
+use Rattle.script_grammar.specs.LineKinds.{bytes_of, numbered, pairs_of, trace_line, report_line, pass_line, flags_line, adverts_line, link_line, reroute_line, period_line, seed_line, node_line}
+use Rattle.script_grammar.specs.LineKinds.{end_line, latency_line, hop_line, path_of, stale_path_line, send_line, drop_line, advert_line, quit_line, clear_line, inject_line}
 use Rattle.script_grammar.specs.declared.line.ScriptLine.TheVariants as line
 use Rattle.script_grammar.specs.FirstWords.{unformed_from}
 use Rattle.script_grammar.specs.Kinds.{field_at}
@@ -95,6 +95,15 @@ end_formed (name ∷ node ∷ addr ∷ capacity ∷ mtu ∷ another ∷ more) =
     longer 5 (length (name ∷ node ∷ addr ∷ capacity ∷ mtu ∷ another ∷ more)) _ (omega arith)
 end_formed _ = refl
 
+pub latency_formed : (words : List (List ℕ)) → is_some (latency_line words) ≡ are_formed (Some kind.Latency) words
+unfolding latency_line
+latency_formed (end ∷ latency ∷ []) =
+    formed (name_of end) _ _ _ _ (named end) (λ _.
+    formed (number_of latency) _ _ _ _ refl (λ _. refl))
+latency_formed (end ∷ latency ∷ another ∷ more) =
+    longer 2 (length (end ∷ latency ∷ another ∷ more)) _ (omega arith)
+latency_formed _ = refl
+
 pub hop_formed : (words : List (List ℕ)) → is_some (hop_line words) ≡ are_formed (Some kind.Hop) words
 unfolding hop_line
 hop_formed (group ∷ source ∷ from ∷ to ∷ []) =
@@ -140,6 +149,16 @@ drop_formed (node ∷ session ∷ sender ∷ []) =
 drop_formed (node ∷ session ∷ sender ∷ another ∷ more) =
     longer 3 (length (node ∷ session ∷ sender ∷ another ∷ more)) _ (omega arith)
 drop_formed _ = refl
+
+pub advert_formed : (words : List (List ℕ)) → is_some (advert_line words) ≡ are_formed (Some kind.Advert) words
+unfolding advert_line
+advert_formed (node ∷ session ∷ sender ∷ []) =
+    formed (name_of node) _ _ _ _ (named node) (λ _.
+    formed (session_of session) _ _ _ _ refl (λ _.
+    formed (sender_of sender) _ _ _ _ refl (λ _. refl)))
+advert_formed (node ∷ session ∷ sender ∷ another ∷ more) =
+    longer 3 (length (node ∷ session ∷ sender ∷ another ∷ more)) _ (omega arith)
+advert_formed _ = refl
 
 pub quit_formed : (words : List (List ℕ)) → is_some (quit_line words) ≡ are_formed (Some kind.Quit) words
 unfolding quit_line
@@ -230,6 +249,11 @@ pub flags_formed : (words : List (List ℕ)) → is_some (flags_line words) ≡ 
 unfolding flags_line
 flags_formed (word ∷ more) = longer 0 (length (word ∷ more)) _ (omega arith)
 flags_formed _ = refl
+
+pub adverts_formed : (words : List (List ℕ)) → is_some (adverts_line words) ≡ are_formed (Some kind.Adverts) words
+unfolding adverts_line
+adverts_formed (word ∷ more) = longer 0 (length (word ∷ more)) _ (omega arith)
+adverts_formed _ = refl
 
 -- ---- names of ends, as many as there are
 names_formed : (k : Kind) (place : ℕ) (words : List (List ℕ)) → ((p : ℕ) → place ≤ p → field_at k p ≡ field.Name)

@@ -3,13 +3,13 @@ use Rattle.std.proofs.Common.{◌≡◌, ◌≢◌, ◌⊎◌, List, [], None, S
 use Rattle.script_words.specs.Addresses.{addr_value}
 use Rattle.script_words.specs.Sessions.{session_value}
 use Rattle.network_model.specs.RouterRules.Inputs.{QuitAll}
-use Rattle.network_model.specs.Events.{AtNode, Waits, Pass, DeliverAt, LoseAt, CopyAt, ClearNode, Rounds, Traces, Reports, ReportsFlags, Injects, Reroutes}
+use Rattle.network_model.specs.Events.{AtNode, Waits, Pass, DeliverAt, LoseAt, CopyAt, ClearNode, Rounds, Traces, Reports, ReportsFlags, ReportsAdverts, Injects, Reroutes}
 use Rattle.script_grammar.specs.Adds.{Adds}
 use Rattle.script_grammar.specs.Draft.{Draft, end_number, node_number, plan_of}
 use Rattle.script_grammar.specs.Grammar.{Happens}
 use Rattle.script_grammar.specs.Laws.{AddsOneEvent}
 use Rattle.script_grammar.specs.Rules.{Keeps, KeepsAll}
-use Rattle.script_grammar.specs.Values.{drop_value, hop_values, send_value, want_value}
+use Rattle.script_grammar.specs.Values.{advert_value, drop_value, hop_values, send_value, want_value}
 use Rattle.script_grammar.specs.declared.line.ScriptLine.{ScriptLine}
 use Rattle.script_grammar.specs.declared.line.ScriptLine.TheVariants as line
 
@@ -19,6 +19,7 @@ adds_one_event d (line.Period ms) new h x = absurd h
 adds_one_event d (line.Seed times) new h x = absurd h
 adds_one_event d (line.Node name) new h x = absurd h
 adds_one_event d (line.End l) new h x = absurd h
+adds_one_event d (line.Latency l) new h x = absurd h
 adds_one_event d (line.Link names) new h x = absurd h
 adds_one_event d (line.Hop l) new h x = absurd h
 adds_one_event d (line.StalePath l) new h x = absurd h
@@ -27,6 +28,7 @@ adds_one_event d (line.StaleHopWall l) new h x = absurd h
 adds_one_event d (line.StaleSenderWall l) new h x = absurd h
 adds_one_event d (line.Send l) new h x = record { event = AtNode (node_number d l.node) (send_value l); plan = ap plan_of x }
 adds_one_event d (line.Drop l) new h x = record { event = AtNode (node_number d l.node) (drop_value l); plan = ap plan_of x }
+adds_one_event d (line.Advert l) new h x = record { event = AtNode (node_number d l.node) (advert_value l); plan = ap plan_of x }
 adds_one_event d (line.Want l) new h x = record { event = AtNode (node_number d l.node) (want_value l); plan = ap plan_of x }
 adds_one_event d (line.Quit l) new h x = record { event = AtNode (node_number d l.node) (QuitAll (session_value l.session)); plan = ap plan_of x }
 adds_one_event d (line.Wait ms) new h x = record { event = Waits ms; plan = ap plan_of x }
@@ -40,6 +42,7 @@ adds_one_event d (line.Trace on) new h x = record { event = Traces on; plan = ap
 adds_one_event d line.Report new h x = record { event = Reports None; plan = ap plan_of x }
 adds_one_event d (line.ReportEnd end) new h x = record { event = Reports (Some (end_number d end)); plan = ap plan_of x }
 adds_one_event d line.Flags new h x = record { event = ReportsFlags; plan = ap plan_of x }
+adds_one_event d line.Adverts new h x = record { event = ReportsAdverts; plan = ap plan_of x }
 adds_one_event d (line.Inject l) new h x = record { event = Injects (end_number d l.end) (addr_value l.dst) x.0; plan = ap plan_of x.2 }
 adds_one_event d (line.Reroute l) new h x = record { event = Reroutes (addr_value l.group) (addr_value l.source) (hop_values d l); plan = ap plan_of x }
 
@@ -49,6 +52,7 @@ events_alone d (line.Period ms) some k = absurd (some k.in_time.no_event)
 events_alone d (line.Seed n) some k = absurd (some k.in_time.no_event)
 events_alone d (line.Node name) some k = absurd (some k.in_time.no_event)
 events_alone d (line.End l) some k = absurd (some k.in_time.no_event)
+events_alone d (line.Latency l) some k = absurd (some k.in_time.no_event)
 events_alone d (line.Link names) some k = absurd (some k.in_time.no_event)
 events_alone d (line.Hop l) some k = absurd (some k.in_time.no_event)
 events_alone d (line.StalePath l) some k = absurd (some k.in_time)
@@ -57,6 +61,7 @@ events_alone d (line.StaleHopWall l) some k = absurd (some k.in_time)
 events_alone d (line.StaleSenderWall l) some k = absurd (some k.in_time)
 events_alone d (line.Send l) some k = inl tt
 events_alone d (line.Drop l) some k = inl tt
+events_alone d (line.Advert l) some k = inl tt
 events_alone d (line.Want l) some k = inl tt
 events_alone d (line.Quit l) some k = inl tt
 events_alone d (line.Wait ms) some k = inl tt
@@ -70,5 +75,6 @@ events_alone d (line.Trace on) some k = inl tt
 events_alone d line.Report some k = inl tt
 events_alone d (line.ReportEnd end) some k = inl tt
 events_alone d line.Flags some k = inl tt
+events_alone d line.Adverts some k = inl tt
 events_alone d (line.Inject l) some k = inl tt
 events_alone d (line.Reroute l) some k = inl tt

@@ -21,17 +21,18 @@ use Rattle.network_model.specs.TreeModel.declared.locals.LocalSender.{LocalSende
 use Rattle.network_model.specs.TreeModel.declared.locals.LocalWant.{LocalWant}
 use Rattle.network_model.specs.TreeModel.Networks.{Net, node_of}
 use Rattle.network_model.specs.TreeModel.Wants.{Locals}
-use Rattle.tree_routing.specs.Answers.{with_end, with_hop, with_link, with_node}
-use Rattle.network_model.specs.Events.{Event, AtNode, Waits, Pass, DeliverAt, LoseAt, CopyAt, ClearNode, Rounds, Traces, Reports, ReportsFlags, Injects, Reroutes}
+use Rattle.tree_routing.specs.Answers.{with_end, with_hop, with_latency, with_link, with_node}
+use Rattle.network_model.specs.Events.{Event, AtNode, Waits, Pass, DeliverAt, LoseAt, CopyAt, ClearNode, Rounds, Traces, Reports, ReportsFlags, ReportsAdverts, Injects, Reroutes}
 use Rattle.network_model.specs.Happenings.{IsSpelling}
 use Rattle.network_model.specs.Steps.{rerouted}
 use Rattle.script_grammar.specs.Draft.{Draft, end_number, node_number, routing, same_session, with_session}
 use Rattle.script_grammar.specs.Values.{end_value, tree_hop_value, hop_values, stale_path_value, stale_resv_value, stale_hop_wall_value, stale_sender_wall_value, send_value, drop_value}
-use Rattle.script_grammar.specs.Values.{want_value, senders_value}
+use Rattle.script_grammar.specs.Values.{advert_value, want_value, senders_value}
 use Rattle.script_grammar.specs.declared.line.ScriptLine.{ScriptLine}
 use Rattle.script_grammar.specs.declared.line.ScriptLine.TheVariants as line
 use Rattle.script_grammar.specs.declared.line.EndLine.{EndLine}
 use Rattle.script_grammar.specs.declared.line.HopLine.{HopLine}
+use Rattle.script_grammar.specs.declared.line.LatencyLine.{LatencyLine}
 use Rattle.script_grammar.specs.declared.line.SendLine.{SendLine}
 use Rattle.script_grammar.specs.declared.line.DropLine.{DropLine}
 use Rattle.script_grammar.specs.declared.line.WantLine.{WantLine}
@@ -45,6 +46,10 @@ link_value d names = each (end_number d) names
 
 abbrev pub with_tree_hop : Draft → TreeHop → Draft
 with_tree_hop d h = record d { net = with_hop d.net h; force = d.force ++ h ∷ [] }
+
+-- an interface has this latency, in microseconds
+abbrev pub with_latency_line : Draft → LatencyLine → Draft
+with_latency_line d l = record d { net = with_latency d.net (end_number d l.end) l.latency; timed = d.timed ++ end_number d l.end ∷ [] }
 
 -- ---- what is left over
 abbrev pub with_stale : Draft → ℕ → Session → Stale → Draft
@@ -112,6 +117,10 @@ with_send d l =
 abbrev pub with_drop : Draft → DropLine → Draft
 with_drop d l = with_local d l.node (session_value l.session) (drop_value l) (without_sender d.locals (session_value l.session) (sender_value l.sender))
 
+-- who sends is as it was
+abbrev pub with_advert : Draft → DropLine → Draft
+with_advert d l = with_local d l.node (session_value l.session) (advert_value l) d.locals
+
 abbrev pub with_want_line : Draft → WantLine → Draft
 with_want_line d l =
     with_local d l.node (session_value l.session) (want_value l) (record d.locals { wants = with_wants d.locals.wants (wants_value d l) })
@@ -138,6 +147,7 @@ Adds d (line.Period ms) new = new ≡ record d { period = Some ms }
 Adds d (line.Seed n) new = new ≡ record d { seed = Some n }
 Adds d (line.Node name) new = new ≡ record d { nodes = d.nodes ++ name ∷ []; net = with_node d.net }
 Adds d (line.End l) new = new ≡ record d { names = d.names ++ l.name ∷ []; net = with_end d.net (end_value d l) }
+Adds d (line.Latency l) new = new ≡ with_latency_line d l
 Adds d (line.Link names) new = new ≡ record d { net = with_link d.net (link_value d names) }
 Adds d (line.Hop l) new = new ≡ with_tree_hop d (tree_hop_value d l)
 Adds d (line.StalePath l) new = new ≡ with_stale d (node_number d l.node) (session_value l.session) (stale_path_value d l)
@@ -146,6 +156,7 @@ Adds d (line.StaleHopWall l) new = new ≡ with_stale d (node_number d l.node) (
 Adds d (line.StaleSenderWall l) new = new ≡ with_stale d (node_number d l.node) (session_value l.session) (stale_sender_wall_value l)
 Adds d (line.Send l) new = new ≡ with_send d l
 Adds d (line.Drop l) new = new ≡ with_drop d l
+Adds d (line.Advert l) new = new ≡ with_advert d l
 Adds d (line.Want l) new = new ≡ with_want_line d l
 Adds d (line.Quit l) new = new ≡ with_quit d l
 Adds d (line.Wait ms) new = new ≡ with_event d (Waits ms)
@@ -159,5 +170,6 @@ Adds d (line.Trace on) new = new ≡ with_event d (Traces on)
 Adds d line.Report new = new ≡ with_event d (Reports None)
 Adds d (line.ReportEnd end) new = new ≡ with_event d (Reports (Some (end_number d end)))
 Adds d line.Flags new = new ≡ with_event d ReportsFlags
+Adds d line.Adverts new = new ≡ with_event d ReportsAdverts
 Adds d (line.Inject l) new = (a : Arrival) × IsArrival l.bytes a × (new ≡ with_event d (Injects (end_number d l.end) (addr_value l.dst) a))
 Adds d (line.Reroute l) new = new ≡ with_reroute d l

@@ -37,6 +37,7 @@ pub record CanBeLookedUp (d : Draft) (l : RerouteLine) : Type 0 where
 abbrev pub AsksMemory : Draft → ScriptLine → Type 0
 AsksMemory d (line.Node name) = KeepsAll (Keeps d (line.Node name))
 AsksMemory d (line.End l) = KeepsAll (Keeps d (line.End l))
+AsksMemory d (line.Latency l) = KeepsAll (Keeps d (line.Latency l))
 AsksMemory d (line.Link names) = KeepsAll (Keeps d (line.Link names))
 AsksMemory d (line.Hop l) = KeepsTree (Keeps d (line.Hop l))
 AsksMemory d (line.StalePath l) = KeepsNew (Keeps d (line.StalePath l)) × HasRoomForSession d (session_value l.session)
@@ -45,6 +46,7 @@ AsksMemory d (line.StaleHopWall l) = KeepsNew (Keeps d (line.StaleHopWall l)) ×
 AsksMemory d (line.StaleSenderWall l) = KeepsNew (Keeps d (line.StaleSenderWall l)) × HasRoomForSession d (session_value l.session)
 AsksMemory d (line.Send l) = KeepsAll (Keeps d (line.Send l))
 AsksMemory d (line.Drop l) = KeepsAll (Keeps d (line.Drop l))
+AsksMemory d (line.Advert l) = KeepsAll (Keeps d (line.Advert l))
 AsksMemory d (line.Want l) = KeepsKnown (Keeps d (line.Want l))
 AsksMemory d (line.Quit l) = KeepsAll (Keeps d (line.Quit l))
 AsksMemory d (line.Inject l) = KeepsAll (Keeps d (line.Inject l))

@@ -26,6 +26,8 @@ pub record Draft : Type 0 where
   pub names : List (List ℕ)
   pub net : Net
   pub force : List TreeHop
+  -- the ends of which a line says the latency
+  pub timed : List ℕ
   -- what is left over, each at its node
   pub stale : List (ℕ × Stale)
   -- the sessions that were named, each once
@@ -41,6 +43,7 @@ nothing = record {
   names = [];
   net = no_net;
   force = [];
+  timed = [];
   stale = [];
   sessions = [];
   locals = record { senders = []; wants = [] };

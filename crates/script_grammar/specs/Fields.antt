@@ -13,7 +13,7 @@ use Rattle.script_grammar.specs.Draft.{lifetime_of_period, wall_lifetime_of_peri
 use Rattle.script_grammar.specs.LineKinds.{bytes_of}
 use Rattle.script_grammar.specs.Values.{IsFrom1To, IsPeriod, IsSub, most_passes, most_places, most_rounds, most_wait}
 use Rattle.script_grammar.specs.declared.field.Field.{Field}
-use Rattle.script_grammar.specs.declared.field.Field.TheVariants.{Period, Seed, Name, Host, Capacity, Mtu, Group, Address, Session, Sender, Senders, Addresses, Anyone, Style, Flow, Left}
+use Rattle.script_grammar.specs.declared.field.Field.TheVariants.{Period, Seed, Name, Host, Capacity, Mtu, Latency, Group, Address, Session, Sender, Senders, Addresses, Anyone, Style, Flow, Left}
 use Rattle.script_grammar.specs.declared.field.Field.TheVariants.{WallLeft, Sub, Target, Switch, Digits, Confirm, Wait, Passes, Rounds, Place}
 
 -- the word has the form of the field, as the grammar reads it
@@ -24,6 +24,7 @@ has_form Name word = is_name word
 has_form Host word = is_some (quad_of word)
 has_form Capacity word = is_some (number_of word)
 has_form Mtu word = is_some (number_of word)
+has_form Latency word = is_some (number_of word)
 has_form Group word = is_some (quad_of word)
 has_form Address word = is_some (quad_of word)
 has_form Session word = is_some (session_of word)
@@ -62,6 +63,7 @@ IsInRange period Seed word = IfSome (number_of word) (λ n. n < 2 ^ 64)
 IsInRange period Host word = IfSome (quad_of word) IsHostWord
 IsInRange period Capacity word = IfSome (number_of word) (λ n. n < 2 ^ 46)
 IsInRange period Mtu word = IfSome (number_of word) (IsFrom1To 65535)
+IsInRange period Latency word = IfSome (number_of word) (λ n. n < 2 ^ 32)
 IsInRange period Group word = IfSome (quad_of word) IsGroupWord
 IsInRange period Address word = IfSome (quad_of word) IsAddr
 IsInRange period Session word = IfSome (session_of word) IsSession

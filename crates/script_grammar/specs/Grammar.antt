@@ -48,6 +48,7 @@ Happens (line.Seed n) = ⊥
 Happens (line.Node name) = ⊥
 Happens (line.End l) = ⊥
 Happens (line.Link names) = ⊥
+Happens (line.Latency l) = ⊥
 Happens (line.Hop l) = ⊥
 Happens (line.StalePath l) = ⊥
 Happens (line.StaleResv l) = ⊥

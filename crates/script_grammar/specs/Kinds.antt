@@ -4,8 +4,8 @@ use Rattle.std.specs.Str.{bytes_eq}
 use Rattle.script_grammar.specs.declared.field.Field.{Field}
 use Rattle.script_grammar.specs.declared.field.Field.TheVariants as field
 use Rattle.script_grammar.specs.declared.kind.Kind.{Kind}
-use Rattle.script_grammar.specs.declared.kind.Kind.TheVariants.{Period, Seed, Node, End, Link, Hop, StalePath, StaleResv, WildResv, Blockade, HopBlockade, SenderBlockade, Send, Drop, Want}
-use Rattle.script_grammar.specs.declared.kind.Kind.TheVariants.{WildWant, Quit, Clear, Wait, Pass, Rounds, Deliver, Lose, Copy, Inject, Trace, Report, Flags, Reroute}
+use Rattle.script_grammar.specs.declared.kind.Kind.TheVariants.{Period, Seed, Node, End, Latency, Link, Hop, StalePath, StaleResv, WildResv, Blockade, HopBlockade, SenderBlockade, Send, Drop, Advert, Want}
+use Rattle.script_grammar.specs.declared.kind.Kind.TheVariants.{WildWant, Quit, Clear, Wait, Pass, Rounds, Deliver, Lose, Copy, Inject, Trace, Report, Flags, Adverts, Reroute}
 
 -- ---- the kind of a line
 -- by its first word: by these, and else so
@@ -14,7 +14,8 @@ by_first [] other first = other
 by_first (k ∷ more) other first = if bytes_eq first k.0 then Some k.1 else by_first more other first
 
 unfoldable pub other_kind : List ℕ → Option Kind
-other_kind first = by_first ((codes "trace", Trace) ∷ (codes "report", Report) ∷ (codes "flags", Flags) ∷ (codes "reroute", Reroute) ∷ []) None first
+other_kind first = by_first ((codes "trace", Trace) ∷ (codes "report", Report) ∷ (codes "flags", Flags) ∷ (codes "adverts", Adverts) ∷ (codes "reroute", Reroute) ∷ []) None
+    first
 
 unfoldable pub flight_kind : List ℕ → Option Kind
 flight_kind first =
@@ -23,7 +24,7 @@ flight_kind first =
 
 unfoldable pub node_kind : List ℕ → Option Kind
 node_kind first =
-    by_first ((codes "send", Send) ∷ (codes "drop", Drop) ∷ (codes "want", Want) ∷ (codes "quit", Quit) ∷ (codes "clear", Clear) ∷ [])
+    by_first ((codes "send", Send) ∷ (codes "drop", Drop) ∷ (codes "advert", Advert) ∷ (codes "want", Want) ∷ (codes "quit", Quit) ∷ (codes "clear", Clear) ∷ [])
     (flight_kind first) first
 
 unfoldable pub left_kind : List ℕ → Option Kind
@@ -32,8 +33,8 @@ left_kind first =
 
 unfoldable pub declared_kind : List ℕ → Option Kind
 declared_kind first =
-    by_first ((codes "period", Period) ∷ (codes "seed", Seed) ∷ (codes "node", Node) ∷ (codes "end", End) ∷ (codes "link", Link)
-    ∷ (codes "hop", Hop) ∷ []) (left_kind first) first
+    by_first ((codes "period", Period) ∷ (codes "seed", Seed) ∷ (codes "node", Node) ∷ (codes "end", End) ∷ (codes "latency", Latency)
+    ∷ (codes "link", Link) ∷ (codes "hop", Hop) ∷ []) (left_kind first) first
 
 -- and by the third word behind it: the style, or the target of a blockade
 abbrev pub third_of : List (List ℕ) → List ℕ
@@ -58,6 +59,7 @@ fields_of Period = field.Period ∷ []
 fields_of Seed = field.Seed ∷ []
 fields_of Node = field.Name ∷ []
 fields_of End = field.Name ∷ field.Name ∷ field.Host ∷ field.Capacity ∷ field.Mtu ∷ []
+fields_of Latency = field.Name ∷ field.Latency ∷ []
 fields_of Link = field.Name ∷ field.Name ∷ field.Name ∷ field.Name ∷ field.Name ∷ field.Name ∷ field.Name ∷ field.Name ∷ []
 fields_of Hop = field.Group ∷ field.Address ∷ field.Name ∷ field.Name ∷ []
 fields_of StalePath = field.Name ∷ field.Session ∷ field.Sender ∷ field.Name ∷ field.Address ∷ field.Flow ∷ field.Left ∷ []
@@ -68,6 +70,7 @@ fields_of HopBlockade = field.Name ∷ field.Session ∷ field.Target ∷ field.
 fields_of SenderBlockade = field.Name ∷ field.Session ∷ field.Target ∷ field.Sender ∷ field.Sub ∷ field.Flow ∷ field.WallLeft ∷ []
 fields_of Send = field.Name ∷ field.Session ∷ field.Sender ∷ field.Flow ∷ []
 fields_of Drop = field.Name ∷ field.Session ∷ field.Sender ∷ []
+fields_of Advert = field.Name ∷ field.Session ∷ field.Sender ∷ []
 fields_of Want = field.Name ∷ field.Session ∷ field.Style ∷ field.Senders ∷ field.Flow ∷ field.Confirm ∷ []
 fields_of WildWant = field.Name ∷ field.Session ∷ field.Style ∷ field.Anyone ∷ field.Flow ∷ field.Confirm ∷ []
 fields_of Quit = field.Name ∷ field.Session ∷ []
@@ -82,6 +85,7 @@ fields_of Inject = field.Name ∷ field.Address ∷ field.Digits ∷ []
 fields_of Trace = field.Switch ∷ []
 fields_of Report = field.Name ∷ []
 fields_of Flags = []
+fields_of Adverts = []
 fields_of Reroute = field.Group ∷ field.Address ∷ []
 
 -- a line may have so many words behind the first: one for each field, but that some may lack, and more ends may come

@@ -16,8 +16,8 @@ use Rattle.script_words.specs.Sessions.{session_of, sender_of, senders_of}
 use Rattle.script_words.specs.Styles.{style_of}
 use Rattle.script_words.specs.Flows.{flow_of}
 use Rattle.script_grammar.specs.declared.line.ScriptLine.{ScriptLine}
-use Rattle.script_grammar.specs.declared.line.ScriptLine.TheVariants.{Skipped, Period, Seed, Node, End, Link, Hop, StalePath, StaleResv, StaleHopWall, StaleSenderWall, Send, Drop, Want}
-use Rattle.script_grammar.specs.declared.line.ScriptLine.TheVariants.{Quit, Wait, Pass, Deliver, Lose, Copy, Clear, Rounds, Trace, Report, ReportEnd, Flags, Inject, Reroute}
+use Rattle.script_grammar.specs.declared.line.ScriptLine.TheVariants.{Skipped, Period, Seed, Node, End, Latency, Link, Hop, StalePath, StaleResv, StaleHopWall, StaleSenderWall, Send, Drop, Advert, Want}
+use Rattle.script_grammar.specs.declared.line.ScriptLine.TheVariants.{Quit, Wait, Pass, Deliver, Lose, Copy, Clear, Rounds, Trace, Report, ReportEnd, Flags, Adverts, Inject, Reroute}
 use Rattle.script_grammar.specs.declared.line.HopEnds.{HopEnds}
 
 -- ---- words of lines
@@ -93,6 +93,14 @@ end_line (name ∷ node ∷ addr ∷ capacity ∷ mtu ∷ []) = do
   u ← number_of mtu
   Some (End (record { name = n; node = m; addr = a; capacity = c; mtu = u }))
 end_line _ = None
+
+-- END MICROSECONDS
+unfoldable pub latency_line : List (List ℕ) → Option ScriptLine
+latency_line (end ∷ latency ∷ []) = do
+  e ← name_of end
+  n ← number_of latency
+  Some (Latency (record { end = e; latency = n }))
+latency_line _ = None
 
 -- END END .., two to eight of them
 unfoldable pub link_line : List (List ℕ) → Option ScriptLine
@@ -204,6 +212,15 @@ drop_line (node ∷ session ∷ sender ∷ []) = do
   Some (Drop (record { node = n; session = s; sender = x }))
 drop_line _ = None
 
+-- NODE SESSION SENDER
+unfoldable pub advert_line : List (List ℕ) → Option ScriptLine
+advert_line (node ∷ session ∷ sender ∷ []) = do
+  n ← name_of node
+  s ← session_of session
+  x ← sender_of sender
+  Some (Advert (record { node = n; session = s; sender = x }))
+advert_line _ = None
+
 -- a want by the words for its node, session, style, senders and flow
 unfoldable pub want_of : List ℕ → List ℕ → List ℕ → List ℕ → List ℕ → Bool → Option ScriptLine
 want_of node session style senders flow confirm = do
@@ -274,6 +291,11 @@ unfoldable pub flags_line : List (List ℕ) → Option ScriptLine
 flags_line [] = Some Flags
 flags_line _ = None
 
+-- no word
+unfoldable pub adverts_line : List (List ℕ) → Option ScriptLine
+adverts_line [] = Some Adverts
+adverts_line _ = None
+
 -- END ADDR HEX
 unfoldable pub inject_line : List (List ℕ) → Option ScriptLine
 inject_line (end ∷ addr ∷ digits ∷ []) = do
@@ -299,14 +321,14 @@ Kinds = List (List ℕ × (List (List ℕ) → Option ScriptLine))
 abbrev pub declared : Kinds
 declared =
     (codes "period", period_line) ∷ (codes "seed", seed_line) ∷ (codes "node", node_line) ∷ (codes "end", end_line)
-    ∷ (codes "link", link_line) ∷ (codes "hop", hop_line) ∷ []
+    ∷ (codes "latency", latency_line) ∷ (codes "link", link_line) ∷ (codes "hop", hop_line) ∷ []
 
 abbrev pub left_over : Kinds
 left_over = (codes "stale-path", stale_path_line) ∷ (codes "stale-resv", stale_resv_line) ∷ (codes "stale-blockade", stale_blockade_line) ∷ []
 
 abbrev pub at_nodes : Kinds
 at_nodes =
-    (codes "send", send_line) ∷ (codes "drop", drop_line) ∷ (codes "want", want_line) ∷ (codes "quit", quit_line)
+    (codes "send", send_line) ∷ (codes "drop", drop_line) ∷ (codes "advert", advert_line) ∷ (codes "want", want_line) ∷ (codes "quit", quit_line)
     ∷ (codes "clear", clear_line) ∷ []
 
 abbrev pub in_flight : Kinds
@@ -316,7 +338,7 @@ in_flight =
 
 abbrev pub others : Kinds
 others =
-    (codes "trace", trace_line) ∷ (codes "report", report_line) ∷ (codes "flags", flags_line) ∷ (codes "reroute", reroute_line) ∷ []
+    (codes "trace", trace_line) ∷ (codes "report", report_line) ∷ (codes "flags", flags_line) ∷ (codes "adverts", adverts_line) ∷ (codes "reroute", reroute_line) ∷ []
 
 -- what the words behind a first word say, by these kinds, and else by those behind them
 abbrev pub by_first : Kinds → (List ℕ → List (List ℕ) → Option ScriptLine) → List ℕ → List (List ℕ) → Option ScriptLine

@@ -1,7 +1,7 @@
 -- Which words of a line are names of what an earlier line has to declare.
 use Rattle.std.specs.Prelude.{ℕ, List, [], ◌∷◌, Option, None, Some, slice_get, unwrap_or}
 use Rattle.script_grammar.specs.declared.kind.Kind.{Kind}
-use Rattle.script_grammar.specs.declared.kind.Kind.TheVariants.{End, Link, Hop, StalePath, StaleResv, WildResv, HopBlockade, SenderBlockade, Send, Drop, Want, WildWant, Quit, Clear, Inject}
+use Rattle.script_grammar.specs.declared.kind.Kind.TheVariants.{End, Latency, Link, Hop, StalePath, StaleResv, WildResv, HopBlockade, SenderBlockade, Send, Drop, Advert, Want, WildWant, Quit, Clear, Inject}
 use Rattle.script_grammar.specs.declared.kind.Kind.TheVariants.{Report, Reroute}
 use Rattle.script_grammar.specs.declared.named.Named.{Named}
 use Rattle.script_grammar.specs.declared.named.Named.TheVariants as named
@@ -9,6 +9,7 @@ use Rattle.script_grammar.specs.declared.named.Named.TheVariants as named
 -- of the words behind the first, in order, which are names of nodes and which of ends
 abbrev pub names_of : Kind → List (Option Named)
 names_of End = None ∷ Some named.Node ∷ []
+names_of Latency = Some named.End ∷ []
 names_of Hop = None ∷ None ∷ Some named.End ∷ Some named.End ∷ []
 names_of StalePath = Some named.Node ∷ None ∷ None ∷ Some named.End ∷ []
 names_of StaleResv = Some named.End ∷ []
@@ -17,6 +18,7 @@ names_of HopBlockade = Some named.Node ∷ None ∷ None ∷ Some named.End ∷ 
 names_of SenderBlockade = Some named.Node ∷ []
 names_of Send = Some named.Node ∷ []
 names_of Drop = Some named.Node ∷ []
+names_of Advert = Some named.Node ∷ []
 names_of Want = Some named.Node ∷ []
 names_of WildWant = Some named.Node ∷ []
 names_of Quit = Some named.Node ∷ []

@@ -22,7 +22,7 @@ use Rattle.network_model.specs.TreeModel.Ranks.{IsLoopFreeIn}
 use Rattle.network_model.specs.TreeModel.Trees.{IsGrown, of_tree}
 use Rattle.network_model.specs.TreeModel.Wants.{Locals, live}
 use Rattle.tree_routing.specs.Answers.{Fits, IsLeastOnLoop, with_hop}
-use Rattle.network_model.specs.Events.{Event, Reports, ReportsFlags}
+use Rattle.network_model.specs.Events.{Event, Reports, ReportsFlags, ReportsAdverts}
 use Rattle.network_model.specs.Worlds.{config_of, ifaces_at}
 use Rattle.script_grammar.specs.Adds.{is_sender, link_value, net_rerouted, wants_at, wants_value, with_sender, with_wants}
 use Rattle.network_model.specs.Excesses.{excess_at}
@@ -38,6 +38,7 @@ use Rattle.script_grammar.specs.declared.line.ScriptLine.{ScriptLine}
 use Rattle.script_grammar.specs.declared.line.ScriptLine.TheVariants as line
 use Rattle.script_grammar.specs.declared.line.EndLine.{EndLine}
 use Rattle.script_grammar.specs.declared.line.HopLine.{HopLine}
+use Rattle.script_grammar.specs.declared.line.LatencyLine.{LatencyLine}
 use Rattle.script_grammar.specs.declared.line.StalePathLine.{StalePathLine}
 use Rattle.script_grammar.specs.declared.line.StaleResvLine.{StaleResvLine}
 use Rattle.script_grammar.specs.declared.line.StaleHopWallLine.{StaleHopWallLine}
@@ -94,6 +95,9 @@ most_units = 16
 
 abbrev pub most_reports : ℕ
 most_reports = 16
+
+abbrev pub most_adverts : ℕ
+most_adverts = 16
 
 -- ---- the parts of a script: declarations, what is left over, what happens
 pub record OnlyDeclares (d : Draft) : Type 0 where
@@ -241,6 +245,14 @@ is_report (Reports end) = true
 is_report ReportsFlags = true
 is_report _ = false
 
+-- ---- lines that ask what the paths offer are counted apart
+abbrev pub asks_adverts : Event → Bool
+asks_adverts ReportsAdverts = true
+asks_adverts _ = false
+
+abbrev pub HasRoomForAdverts : Draft → Type 0
+HasRoomForAdverts d = count_by asks_adverts d.events < most_adverts
+
 abbrev pub HasRoomForReport : Draft → Type 0
 HasRoomForReport d = count_by is_report d.events < most_reports
 
@@ -270,6 +282,13 @@ EndKeeps d l Known = IsNode d l.node
 EndKeeps d l New = IsNewEnd d l
 EndKeeps d l WithinLimits = length (ends_of d.net.ends (node_number d l.node)) < most_ifaces
 EndKeeps d l _ = Unit {0}
+
+abbrev pub LatencyKeeps : Draft → LatencyLine → Rule → Type 0
+LatencyKeeps d l InTime = OnlyDeclares d
+LatencyKeeps d l InRange = l.latency < 2 ^ 32
+LatencyKeeps d l Known = IsEnd d l.end
+LatencyKeeps d l New = list_any (λ e. e == end_number d l.end) d.timed ≡ false
+LatencyKeeps d l _ = Unit {0}
 
 abbrev pub LinkKeeps : Draft → List (List ℕ) → Rule → Type 0
 LinkKeeps d names InTime = OnlyDeclares d
@@ -332,6 +351,10 @@ DropKeeps d l InRange = IsDropInRange l
 DropKeeps d l Known = IsSending d l
 DropKeeps d l _ = Unit {0}
 
+-- a sender is advertised where it could be dropped
+abbrev pub AdvertKeeps : Draft → DropLine → Rule → Type 0
+AdvertKeeps d l rule = DropKeeps d l rule
+
 abbrev pub WantKeeps : Draft → WantLine → Rule → Type 0
 WantKeeps d l InRange = IsWantInRange l
 WantKeeps d l Known = IsNode d l.node
@@ -358,6 +381,10 @@ abbrev pub ReportKeeps : Draft → Rule → Type 0
 ReportKeeps d WithinLimits = HasRoomForReport d
 ReportKeeps d _ = Unit {0}
 
+abbrev pub AdvertsKeeps : Draft → Rule → Type 0
+AdvertsKeeps d WithinLimits = HasRoomForAdverts d
+AdvertsKeeps d _ = Unit {0}
+
 abbrev pub ReportEndKeeps : Draft → List ℕ → Rule → Type 0
 ReportEndKeeps d end Known = IsEnd d end
 ReportEndKeeps d end WithinLimits = HasRoomForReport d
@@ -382,6 +409,7 @@ Keeps d (line.Period ms) rule = PeriodKeeps d ms rule
 Keeps d (line.Seed n) rule = SeedKeeps d n rule
 Keeps d (line.Node name) rule = NodeKeeps d name rule
 Keeps d (line.End l) rule = EndKeeps d l rule
+Keeps d (line.Latency l) rule = LatencyKeeps d l rule
 Keeps d (line.Link names) rule = LinkKeeps d names rule
 Keeps d (line.Hop l) rule = HopKeeps d l rule
 Keeps d (line.StalePath l) rule = StalePathKeeps d l rule
@@ -390,6 +418,7 @@ Keeps d (line.StaleHopWall l) rule = StaleHopWallKeeps d l rule
 Keeps d (line.StaleSenderWall l) rule = StaleSenderWallKeeps d l rule
 Keeps d (line.Send l) rule = SendKeeps d l rule
 Keeps d (line.Drop l) rule = DropKeeps d l rule
+Keeps d (line.Advert l) rule = AdvertKeeps d l rule
 Keeps d (line.Want l) rule = WantKeeps d l rule
 Keeps d (line.Quit l) rule = QuitKeeps d l rule
 Keeps d (line.Wait ms) rule = NumberKeeps most_wait ms rule
@@ -403,6 +432,7 @@ Keeps d (line.Trace on) rule = Unit {0}
 Keeps d line.Report rule = ReportKeeps d rule
 Keeps d (line.ReportEnd end) rule = ReportEndKeeps d end rule
 Keeps d line.Flags rule = ReportKeeps d rule
+Keeps d line.Adverts rule = AdvertsKeeps d rule
 Keeps d (line.Inject l) rule = InjectKeeps d l rule
 Keeps d (line.Reroute l) rule = RerouteKeeps d l rule
 

@@ -13,7 +13,7 @@ use Rattle.script_words.specs.Sessions.{IsSender, IsSession, sender_value, sessi
 use Rattle.rsvp_base.specs.Styles.{unit_of_first}
 use Rattle.style_rules.specs.Lines.{LineKey}
 use Rattle.style_rules.specs.declared.target.Target.TheVariants as target
-use Rattle.network_model.specs.RouterRules.Inputs.{Local, SendAs, DropAs, WantAs, QuitAll, Stale, StalePath, StaleResv, StaleWall}
+use Rattle.network_model.specs.RouterRules.Inputs.{Local, SendAs, DropAs, AdvertAs, WantAs, QuitAll, Stale, StalePath, StaleResv, StaleWall}
 use Rattle.network_model.specs.TreeModel.declared.hops.LinkHop.{LinkHop}
 use Rattle.network_model.specs.TreeModel.declared.hops.TreeHop.{TreeHop}
 use Rattle.network_model.specs.TreeModel.declared.locals.LocalSender.{LocalSender}
@@ -169,6 +169,9 @@ send_value l = SendAs (session_value l.session) (sender_value l.sender) (flow_va
 
 abbrev pub drop_value : DropLine → Local
 drop_value l = DropAs (session_value l.session) (sender_value l.sender)
+
+abbrev pub advert_value : DropLine → Local
+advert_value l = AdvertAs (session_value l.session) (sender_value l.sender)
 
 abbrev pub want_value : WantLine → Local
 want_value l = WantAs (session_value l.session) l.style (senders_value l.senders) (flow_value l.flow) l.confirm

@@ -31,6 +31,8 @@ pub enum Field {
     Capacity,
     /// In bytes.
     Mtu,
+    /// In microseconds.
+    Latency,
     /// A multicast group.
     Group,
     /// Another address.
@@ -94,6 +96,7 @@ impl Field {
             Field::Seed => number(word).is_some(),
             Field::Capacity => number(word).is_some(),
             Field::Mtu => number(word).is_some(),
+            Field::Latency => number(word).is_some(),
             Field::Left => number(word).is_some(),
             Field::WallLeft => number(word).is_some(),
             Field::Sub => number(word).is_some(),
@@ -114,6 +117,7 @@ impl Field {
             Field::Host => is_host_word(word),
             Field::Capacity => is_below(word, 1 << 46),
             Field::Mtu => is_from_1_to(word, 65_535),
+            Field::Latency => is_below(word, 1 << 32),
             Field::Group => is_group_word(word),
             Field::Address => is_address(word),
             Field::Session => is_session(word),

@@ -12,6 +12,7 @@ pub enum Kind {
     Seed,
     Node,
     End,
+    Latency,
     Link,
     Hop,
     StalePath,
@@ -24,6 +25,7 @@ pub enum Kind {
     SenderBlockade,
     Send,
     Drop,
+    Advert,
     Want,
     /// `want` of the style WF
     WildWant,
@@ -39,6 +41,7 @@ pub enum Kind {
     Trace,
     Report,
     Flags,
+    Adverts,
     Reroute,
 }
 
@@ -68,6 +71,7 @@ impl Kind {
                 Field::Capacity,
                 Field::Mtu,
             ],
+            Kind::Latency => &[Field::Name, Field::Latency],
             Kind::Link => &[
                 Field::Name,
                 Field::Name,
@@ -128,6 +132,7 @@ impl Kind {
             ],
             Kind::Send => &[Field::Name, Field::Session, Field::Sender, Field::Flow],
             Kind::Drop => &[Field::Name, Field::Session, Field::Sender],
+            Kind::Advert => &[Field::Name, Field::Session, Field::Sender],
             Kind::Want => &[
                 Field::Name,
                 Field::Session,
@@ -156,6 +161,7 @@ impl Kind {
             Kind::Trace => &[Field::Switch],
             Kind::Report => &[Field::Name],
             Kind::Flags => &[],
+            Kind::Adverts => &[],
             Kind::Reroute => &[Field::Group, Field::Address],
         }
     }
@@ -241,6 +247,9 @@ fn declared_kind(first: &[u8]) -> Option<Kind>
     if *first == *b"end".as_slice() {
         return Some(Kind::End);
     }
+    if *first == *b"latency".as_slice() {
+        return Some(Kind::Latency);
+    }
     if *first == *b"link".as_slice() {
         return Some(Kind::Link);
     }
@@ -275,6 +284,9 @@ fn node_kind(first: &[u8]) -> Option<Kind>
     }
     if *first == *b"drop".as_slice() {
         return Some(Kind::Drop);
+    }
+    if *first == *b"advert".as_slice() {
+        return Some(Kind::Advert);
     }
     if *first == *b"want".as_slice() {
         return Some(Kind::Want);
@@ -328,6 +340,9 @@ fn other_kind(first: &[u8]) -> Option<Kind>
     }
     if *first == *b"flags".as_slice() {
         return Some(Kind::Flags);
+    }
+    if *first == *b"adverts".as_slice() {
+        return Some(Kind::Adverts);
     }
     if *first == *b"reroute".as_slice() {
         return Some(Kind::Reroute);

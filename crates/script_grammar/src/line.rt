@@ -17,6 +17,8 @@ pub enum ScriptLine {
     Node(EndName),
     /// `end NAME NODE ADDR CAPACITY MTU`
     End(EndLine),
+    /// `latency END MICROSECONDS`
+    Latency(LatencyLine),
     /// `link END END ..`: two to eight ends of a shared medium.
     Link(LinkEnds),
     /// `hop GROUP SOURCE END END`
@@ -33,6 +35,8 @@ pub enum ScriptLine {
     Send(SendLine),
     /// `drop NODE SESSION SENDER`
     Drop(DropLine),
+    /// `advert NODE SESSION SENDER`
+    Advert(DropLine),
     /// `want NODE SESSION STYLE SENDERS FLOW [confirm]`
     Want(WantLine),
     /// `quit NODE SESSION`
@@ -59,6 +63,8 @@ pub enum ScriptLine {
     ReportEnd(EndName),
     /// `flags`
     Flags,
+    /// `adverts`
+    Adverts,
     /// `inject END ADDR HEX`
     Inject(InjectLine),
     /// `reroute GROUP SOURCE END END ..`
@@ -83,6 +89,14 @@ pub struct EndLine {
 pub struct HopEnds {
     pub from: EndName,
     pub to: EndName,
+}
+
+/// The latency of an end's interface.
+#[derive(Drop)]
+pub struct LatencyLine {
+    pub end: EndName,
+    /// In microseconds.
+    pub latency: u128,
 }
 
 /// A hop of the tree of a group and a source address.
@@ -161,7 +175,7 @@ pub struct SendLine {
     pub flow: FlowWord,
 }
 
-/// A sender that ends.
+/// A sender that ends, or of whose path its node tells what it offers.
 #[derive(Drop)]
 pub struct DropLine {
     pub node: EndName,

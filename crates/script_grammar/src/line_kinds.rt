@@ -13,10 +13,11 @@ mod lists;
 use crate::line::ScriptLine;
 use crate::word_list::few_words;
 use arrayvec::ArrayVec;
-use declared::{end_line, hop_line, link_line, node_line, period_line, seed_line};
+use declared::{end_line, hop_line, latency_line, link_line, node_line, period_line, seed_line};
 use happens::{
-    clear_line, copy_line, deliver_line, drop_line, flags_line, inject_line, lose_line, pass_line,
-    quit_line, report_line, reroute_line, rounds_line, send_line, trace_line, wait_line, want_line,
+    advert_line, adverts_line, clear_line, copy_line, deliver_line, drop_line, flags_line,
+    inject_line, lose_line, pass_line, quit_line, report_line, reroute_line, rounds_line,
+    send_line, trace_line, wait_line, want_line,
 };
 use left_over::{stale_blockade_line, stale_path_line, stale_resv_line};
 use script_words::{Unread, read_words};
@@ -70,6 +71,9 @@ fn said_by(alloc: Global, words: &[&[u8]]) -> Result<ScriptLine, Unread>
     if *first == b"end".as_slice() {
         return end_line(behind).ok_or(Unread::Word);
     }
+    if *first == b"latency".as_slice() {
+        return latency_line(behind).ok_or(Unread::Word);
+    }
     if *first == b"link".as_slice() {
         return link_line(alloc, behind);
     }
@@ -106,6 +110,9 @@ fn said_at_node(alloc: Global, first: &[u8], behind: &[&[u8]]) -> Result<ScriptL
     }
     if first == b"drop".as_slice() {
         return drop_line(behind).ok_or(Unread::Word);
+    }
+    if first == b"advert".as_slice() {
+        return advert_line(behind).ok_or(Unread::Word);
     }
     if first == b"want".as_slice() {
         return want_line(alloc, behind);
@@ -161,6 +168,9 @@ fn said_other(alloc: Global, first: &[u8], behind: &[&[u8]]) -> Result<ScriptLin
     }
     if first == b"flags".as_slice() {
         return flags_line(behind).ok_or(Unread::Word);
+    }
+    if first == b"adverts".as_slice() {
+        return adverts_line(behind).ok_or(Unread::Word);
     }
     if first == b"reroute".as_slice() {
         return reroute_line(alloc, behind);

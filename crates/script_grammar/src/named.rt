@@ -18,6 +18,7 @@ impl Kind {
     {
         match self {
             Kind::End => &[None, Some(Named::Node)],
+            Kind::Latency => &[Some(Named::End)],
             Kind::Hop => &[None, None, Some(Named::End), Some(Named::End)],
             Kind::StalePath => &[Some(Named::Node), None, None, Some(Named::End)],
             Kind::StaleResv => &[Some(Named::End)],
@@ -26,6 +27,7 @@ impl Kind {
             Kind::SenderBlockade => &[Some(Named::Node)],
             Kind::Send => &[Some(Named::Node)],
             Kind::Drop => &[Some(Named::Node)],
+            Kind::Advert => &[Some(Named::Node)],
             Kind::Want => &[Some(Named::Node)],
             Kind::WildWant => &[Some(Named::Node)],
             Kind::Quit => &[Some(Named::Node)],

@@ -1,5 +1,6 @@
-//! The rules of `end`.
-ghost use Rattle.std.specs.Prelude.{◌≡◌, ◌↔◌, ◌++◌, ◌∷◌, [], Err, IfErr, IfSome, IsSome, None, OnOk};
+//! The rules of `end` and `latency`.
+ghost use Rattle.std.specs.Prelude.{◌≡◌, ◌==◌, ◌↔◌, ◌++◌, ◌∷◌, [], Err, IfErr, IfSome, IsSome, None, OnOk};
+ghost use Rattle.std.specs.List.{list_any};
 ghost use Rattle.script_words.specs.Addresses.{addr_value};
 ghost use Rattle.tree_routing.specs.Answers.{TakesEnd, with_end};
 ghost use Rattle.script_state.specs.Said.{draft_of};
@@ -12,7 +13,7 @@ ghost use Rattle.script_grammar.specs.Values.{IsEndInRange};
 ghost use Rattle.script_grammar.specs.declared.line.ScriptLine.TheVariants as kind;
 
 use rsvp_base::{EndName, Iface};
-use script_grammar::{EndLine, Fault, Stop};
+use script_grammar::{EndLine, Fault, LatencyLine, Stop};
 use script_state::{ScriptState, only_declares};
 use script_words::is_host;
 use tree_routing::End;
@@ -84,4 +85,36 @@ fn declare(state: &mut ScriptState, name: EndName, end: End) -> Result<(), Stop>
             Err(Stop::NoMemory)
         }
     }
+}
+
+/// Says the latency of an end.
+pub fn add_latency(state: &mut ScriptState, line: LatencyLine) -> Result<(), Stop>
+    ensures ok { OnOk result (KeepsAll (Keeps (draft_of state.old) (kind.Latency line)) × Adds (draft_of state.old) (kind.Latency line) (draft_of state.new)) }
+    ensures refused { IfErr result (Refuses (draft_of state.old) (kind.Latency line)) }
+    ensures asked { result ≡ Err Stop.NoMemory → AsksMemory (draft_of state.old) (kind.Latency line) }
+    ensures same { IfErr result (IsUntouched (draft_of state.old) (draft_of state.new)) }
+{
+    if !only_declares(state) {
+        return Err(Stop::Bad(Fault::Late));
+    }
+    if line.latency > u128::from(u32::MAX) {
+        return Err(Stop::Bad(Fault::Range));
+    }
+    let Some(end) = state.names.find(line.end.bytes()) else {
+        return Err(Stop::Bad(Fault::Name));
+    };
+    let end = end as u16;
+    if is_timed(state.timed.as_slice(), end) {
+        return Err(Stop::Bad(Fault::Twice));
+    }
+    state.timed.push(end)?;
+    state.topology.set_latency(end, line.latency as u32);
+    Ok(())
+}
+
+// Whether a line says the latency of an end.
+fn is_timed(timed: &[u16], end: u16) -> bool
+    ensures { result ≡ list_any (λ e. e == end) timed.now }
+{
+    timed.iter().any(|one| *one == end)
 }

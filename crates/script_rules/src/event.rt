@@ -12,7 +12,9 @@ ghost use Rattle.script_grammar.specs.declared.line.ScriptLine.TheVariants as ki
 use network_model::Event;
 use rsvp_base::EndName;
 use script_grammar::{Fault, InjectLine, Stop};
-use script_state::{ScriptState, has_room_for_report, keep, keep_report};
+use script_state::{
+    ScriptState, has_room_for_adverts, has_room_for_report, keep, keep_adverts, keep_report,
+};
 
 const MOST_WAIT: u32 = 3_600_000;
 
@@ -191,6 +193,20 @@ pub fn add_flags(state: &mut ScriptState) -> Result<Event, Stop>
         return Err(Stop::Bad(Fault::Limit));
     }
     Ok(keep_report(state, Event::Flags))
+}
+
+/// Adds the event of `adverts`.
+pub fn add_adverts(state: &mut ScriptState) -> Result<Event, Stop>
+    ensures ok { OnOk result (KeepsAll (Keeps (draft_of state.old) (kind.Adverts)) × Adds (draft_of state.old) (kind.Adverts) (draft_of state.new)) }
+    ensures event { IfOk result (λ e. IsAdded (draft_of state.old).events e (draft_of state.new).events) }
+    ensures refused { IfErr result (Refuses (draft_of state.old) (kind.Adverts)) }
+    ensures asked { result ≢ Err Stop.NoMemory }
+    ensures same { IfErr result (IsUntouched (draft_of state.old) (draft_of state.new)) }
+{
+    if !has_room_for_adverts(state) {
+        return Err(Stop::Bad(Fault::Limit));
+    }
+    Ok(keep_adverts(state))
 }
 
 /// Adds the event of `inject`. `NoMemory`: the line keeps all rules, and there was no memory for its bytes.

@@ -19,10 +19,10 @@ mod sender;
 mod stale;
 mod want;
 
-pub use end::add_end;
+pub use end::{add_end, add_latency};
 pub use event::{
-    add_again, add_clear, add_deliver, add_flags, add_inject, add_lose, add_pass, add_report,
-    add_report_end, add_rounds, add_trace, add_wait,
+    add_adverts, add_again, add_clear, add_deliver, add_flags, add_inject, add_lose, add_pass,
+    add_report, add_report_end, add_rounds, add_trace, add_wait,
 };
 pub use hop::add_hop;
 pub use link::add_link;
@@ -30,6 +30,6 @@ pub use node::add_node;
 pub use period::{add_period, add_seed};
 pub use reroute::{add_reroute, hop_between, hops_between};
 pub use reserve::add_resv;
-pub use sender::{add_drop, add_send};
+pub use sender::{add_advert, add_drop, add_send};
 pub use stale::{add_hop_wall, add_path, add_sender_wall};
 pub use want::{add_quit, add_want};

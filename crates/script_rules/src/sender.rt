@@ -1,7 +1,7 @@
-//! The rules of `send` and `drop`.
+//! The rules of `send`, `advert` and `drop`.
 ghost use Rattle.std.specs.Prelude.{◌≡◌, ◌≤◌, ◌↔◌, ◌∷◌, ◌++◌, ◌+◌, [], IsTrue, IsSome, IfSome, Err, IfErr, IfOk, OnOk, Some, count_by, length, map, not, true};
 ghost use Rattle.std.specs.List.{filter, list_any};
-ghost use Rattle.router_rules.specs.Inputs.{DropAs, SendAs};
+ghost use Rattle.router_rules.specs.Inputs.{AdvertAs, DropAs, SendAs};
 ghost use Rattle.network_model.specs.Events.{AtNode};
 ghost use Rattle.script_words.specs.Flows.{flow_value};
 ghost use Rattle.script_words.specs.Sessions.{sender_value, session_value};
@@ -49,6 +49,36 @@ pub fn add_send(state: &mut ScriptState, line: SendLine) -> Result<Event, Stop>
         return Err(Stop::Bad(Fault::Limit));
     }
     begin(state, new, flow)
+}
+
+/// Has a sender advertised.
+pub fn add_advert(state: &mut ScriptState, line: DropLine) -> Result<Event, Stop>
+    ensures ok { OnOk result (KeepsAll (Keeps (draft_of state.old) (kind.Advert line)) × Adds (draft_of state.old) (kind.Advert line) (draft_of state.new)) }
+    ensures event { IfOk result (λ e. IsAdded (draft_of state.old).events e (draft_of state.new).events) }
+    ensures refused { IfErr result (Refuses (draft_of state.old) (kind.Advert line)) }
+    ensures asked { result ≡ Err Stop.NoMemory → AsksMemory (draft_of state.old) (kind.Advert line) }
+    ensures same { IfErr result (IsUntouched (draft_of state.old) (draft_of state.new)) }
+{
+    let Some((session, sender)) = drop_values(&line) else {
+        return Err(Stop::Bad(Fault::Range));
+    };
+    let Some(node) = state.nodes.find(line.node.bytes()) else {
+        return Err(Stop::Bad(Fault::Name));
+    };
+    let one = LocalSender {
+        node: node as u16,
+        session,
+        sender,
+    };
+    if !sends_at(state.senders.as_slice(), one) {
+        return Err(Stop::Bad(Fault::Name));
+    }
+    keep_call(
+        state,
+        one.node,
+        session,
+        LocalCall::Advert { session, sender },
+    )
 }
 
 /// Ends a sender.

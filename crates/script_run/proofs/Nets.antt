@@ -4,7 +4,7 @@ use Rattle.std.specs.Prelude.{nat_lt, ◌*◌, ◌/◌, ◌%◌}
 use Rattle.std.specs.List.{repeat}
 use Rattle.calm_rounds.specs.Machine.{run}
 use Rattle.tree_model.specs.Networks.{Net}
-use Rattle.script_grammar.specs.Events.{Event, AtNode, Waits, Pass, DeliverAt, LoseAt, CopyAt, ClearNode, Rounds, Traces, Reports, ReportsFlags, Injects, Reroutes}
+use Rattle.script_grammar.specs.Events.{Event, AtNode, Waits, Pass, DeliverAt, LoseAt, CopyAt, ClearNode, Rounds, Traces, Reports, ReportsFlags, ReportsAdverts, Injects, Reroutes}
 use Rattle.script_grammar.specs.Events.{at_place, last_piece, pieces, pass, passes, half, halves, a_round, rounds, steps_of}
 use Rattle.script_grammar.specs.Steps.{Step, Piece, Deliver, Lose, Copy, machine, net_after, rerouted, step}
 use Rattle.script_grammar.specs.Worlds.{World}
@@ -76,5 +76,6 @@ module _ (q : ℕ) where
   event_net (Traces on) w = refl
   event_net (Reports e) w = refl
   event_net ReportsFlags w = refl
+  event_net ReportsAdverts w = refl
   event_net (Injects e dst a) w = refl
   event_net (Reroutes g s hops) w = refl

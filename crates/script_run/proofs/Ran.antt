@@ -51,6 +51,7 @@ asks_so p a t same (event.Rounds times) h = sym same ∙ h
 asks_so p a t same (event.Trace on) h = sym same ∙ h
 asks_so p a t same (event.Report end) h = refl
 asks_so p a t same event.Flags h = refl
+asks_so p a t same event.Adverts h = refl
 asks_so p a t same (event.Inject end dst bytes) h = sym same ∙ h
 asks_so p a t same (event.Reroute group source hops) h = refl
 

@@ -13,13 +13,13 @@ use Rattle.network_model.specs.declared.event.Event.TheVariants as event
 use Rattle.network_replay.specs.Happening.{CanHappen}
 use Rattle.script_words.specs.Addresses.{addr_value}
 use Rattle.script_words.specs.Sessions.{session_value}
-use Rattle.script_grammar.specs.Adds.{Adds, with_drop, with_quit, with_reroute, with_send, with_want_line, with_event as with_happening}
+use Rattle.script_grammar.specs.Adds.{Adds, with_advert, with_drop, with_quit, with_reroute, with_send, with_want_line, with_event as with_happening}
 use Rattle.script_grammar.specs.Draft.{Draft, end_number, node_number, plan_of, routing, with_hops}
-use Rattle.script_grammar.specs.Events.{Event, AtNode, Waits, Pass, DeliverAt, LoseAt, CopyAt, ClearNode, Rounds, Traces, Reports, ReportsFlags, Injects, Reroutes}
+use Rattle.script_grammar.specs.Events.{Event, AtNode, Waits, Pass, DeliverAt, LoseAt, CopyAt, ClearNode, Rounds, Traces, Reports, ReportsFlags, ReportsAdverts, Injects, Reroutes}
 use Rattle.script_grammar.specs.Grammar.{Follows}
 use Rattle.script_grammar.specs.Rules.{Keeps, KeepsAll}
 use Rattle.script_grammar.specs.Runs.{Plan, is_crowded_run, last_world}
-use Rattle.script_grammar.specs.Values.{drop_value, hop_values, send_value, tree_hop_value, want_value}
+use Rattle.script_grammar.specs.Values.{advert_value, drop_value, hop_values, send_value, tree_hop_value, want_value}
 use Rattle.script_grammar.specs.Worlds.{World}
 use Rattle.script_grammar.specs.declared.line.RerouteLine.{RerouteLine}
 use Rattle.script_grammar.specs.declared.line.ScriptLine.{ScriptLine}
@@ -84,6 +84,7 @@ module _ (d new : Draft) (e : Event) (added : new.events ≡ d.events ++ e ∷ [
   next_line : (l : ScriptLine) → KeepsAll (Keeps d l) → Adds d l new → IsNext d new e
   next_line (line.Send l) rules adds = next (with_send d l) (AtNode (node_number d l.node) (send_value l)) adds refl tt refl
   next_line (line.Drop l) rules adds = next (with_drop d l) (AtNode (node_number d l.node) (drop_value l)) adds refl tt refl
+  next_line (line.Advert l) rules adds = next (with_advert d l) (AtNode (node_number d l.node) (advert_value l)) adds refl tt refl
   next_line (line.Want l) rules adds = next (with_want_line d l) (AtNode (node_number d l.node) (want_value l)) adds refl tt refl
   next_line (line.Quit l) rules adds = next (with_quit d l) (AtNode (node_number d l.node) (QuitAll (session_value l.session))) adds refl tt refl
   next_line (line.Wait ms) rules adds = next (with_happening d (Waits ms)) (Waits ms) adds refl tt refl
@@ -97,6 +98,7 @@ module _ (d new : Draft) (e : Event) (added : new.events ≡ d.events ++ e ∷ [
   next_line line.Report rules adds = next (with_happening d (Reports None)) (Reports None) adds refl tt refl
   next_line (line.ReportEnd end) rules adds = next (with_happening d (Reports (Some (end_number d end)))) (Reports (Some (end_number d end))) adds refl tt refl
   next_line line.Flags rules adds = next (with_happening d ReportsFlags) ReportsFlags adds refl tt refl
+  next_line line.Adverts rules adds = next (with_happening d ReportsAdverts) ReportsAdverts adds refl tt refl
   next_line (line.Inject l) rules adds =
       let x = Injects (end_number d l.end) (addr_value l.dst) adds.0 in
       next (with_happening d x) x adds.2 refl tt refl

@@ -2,7 +2,7 @@
 use Rattle.std.specs.Prelude.{◌≡◌, ◌≢◌, ℕ, Bool, true, List, [], ◌∷◌, ◌++◌}
 use Rattle.script_grammar.specs.Asking.{AsksToBeTaken}
 use Rattle.script_grammar.specs.Draft.{Draft, plan_of}
-use Rattle.script_grammar.specs.Events.{Event, Reports, ReportsFlags, Reroutes}
+use Rattle.script_grammar.specs.Events.{Event, Reports, ReportsFlags, Reroutes, ReportsAdverts}
 use Rattle.script_grammar.specs.Grammar.{Follows}
 use Rattle.script_grammar.specs.Runs.{Plan, last_world}
 
@@ -10,6 +10,7 @@ use Rattle.script_grammar.specs.Runs.{Plan, last_world}
 abbrev pub asks_memory : Plan → Event → Bool
 asks_memory p (Reports end) = true
 asks_memory p ReportsFlags = true
+asks_memory p ReportsAdverts = true
 asks_memory p (Reroutes group source hops) = true
 asks_memory p _ = (last_world p).trace
 

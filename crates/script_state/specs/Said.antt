@@ -13,6 +13,7 @@ draft_of c = record {
   nodes = c.nodes;
   names = c.names;
   net = c.topology;
+  timed = c.timed.items;
   force = hops_in_force c.force c.topology.hops;
   stale = stale_in c.left;
   sessions = c.sessions.items;

@@ -3,9 +3,10 @@ ghost use Rattle.std.specs.Prelude.{◌≡◌, ◌↔◌, ◌++◌, ◌∷◌, [
 ghost use Rattle.router_rules.specs.Inputs.{Arrival};
 ghost use Rattle.script_grammar.specs.GivenEvents.{IsAdded, IsRead};
 ghost use Rattle.network_model.specs.Happenings.{IsFitEvent, event_with};
-ghost use Rattle.script_grammar.specs.Rules.{HasRoomForReport, is_report};
+ghost use Rattle.script_grammar.specs.Rules.{HasRoomForAdverts, asks_adverts, HasRoomForReport, is_report};
 ghost use Rattle.script_state.specs.Events.{arrival_of, event_of};
 ghost use Rattle.script_state.specs.Said.{draft_of};
+ghost use Rattle.network_model.specs.Events.{ReportsAdverts};
 
 use crate::state::ScriptState;
 use message_decode::decode;
@@ -14,6 +15,8 @@ use rsvp_messages::{Message, MsgErr};
 
 const MOST_REPORTS: usize = 16;
 
+const MOST_ADVERTS: usize = 16;
+
 /// Whether there is room for one more report.
 pub fn has_room_for_report(state: &ScriptState) -> bool
     ensures { IsTrue result ↔ HasRoomForReport (draft_of state.now) }
@@ -21,10 +24,18 @@ pub fn has_room_for_report(state: &ScriptState) -> bool
     state.reports < MOST_REPORTS
 }
 
+/// Whether there is room for one more line that asks what the paths offer.
+pub fn has_room_for_adverts(state: &ScriptState) -> bool
+    ensures { IsTrue result ↔ HasRoomForAdverts (draft_of state.now) }
+{
+    state.adverts < MOST_ADVERTS
+}
+
 /// Keeps an event that is no report, and gives it back.
 pub fn keep(state: &mut ScriptState, event: Event) -> Event
     requires fit { IsFitEvent event }
     requires other { (a : Arrival) → is_report (event_with a event) ≡ false }
+    requires quiet { (a : Arrival) → asks_adverts (event_with a event) ≡ false }
     ensures ok { (a : Arrival) × IsRead event a × (draft_of state.new ≡ record (draft_of state.old) { events = map event_of state.old.events.items ++ event_with a event ∷ [] }) }
     ensures event { IsAdded (draft_of state.old).events result (draft_of state.new).events }
 {
@@ -38,6 +49,7 @@ pub fn keep(state: &mut ScriptState, event: Event) -> Event
 pub fn keep_report(state: &mut ScriptState, event: Event) -> Event
     requires fit { IsFitEvent event }
     requires report { (a : Arrival) → is_report (event_with a event) ≡ true }
+    requires quiet { (a : Arrival) → asks_adverts (event_with a event) ≡ false }
     requires room { HasRoomForReport (draft_of state.old) }
     ensures ok { (a : Arrival) × IsRead event a × (draft_of state.new ≡ record (draft_of state.old) { events = map event_of state.old.events.items ++ event_with a event ∷ [] }) }
     ensures event { IsAdded (draft_of state.old).events result (draft_of state.new).events }
@@ -46,6 +58,19 @@ pub fn keep_report(state: &mut ScriptState, event: Event) -> Event
     state.events = state.events.and(&event, &read);
     state.begun = true;
     state.reports += 1;
+    event
+}
+
+/// Keeps that it is asked what the paths offer, for which there is room, and gives the event.
+pub fn keep_adverts(state: &mut ScriptState) -> Event
+    requires { HasRoomForAdverts (draft_of state.old) }
+    ensures ok { draft_of state.new ≡ record (draft_of state.old) { events = map event_of state.old.events.items ++ ReportsAdverts ∷ [] } }
+    ensures event { IsAdded (draft_of state.old).events result (draft_of state.new).events }
+{
+    let event = Event::Adverts;
+    state.events = state.events.and(&event, &None);
+    state.begun = true;
+    state.adverts += 1;
     event
 }
 

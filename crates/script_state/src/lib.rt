@@ -16,7 +16,7 @@ mod state;
 mod wants;
 
 pub use history::History;
-pub use keeping::{has_room_for_report, keep, keep_report};
+pub use keeping::{has_room_for_adverts, has_room_for_report, keep, keep_adverts, keep_report};
 pub use names::NameTable;
 pub use parts::{is_before_events, only_declares};
 pub use senders::{are_distinct, sender_values};

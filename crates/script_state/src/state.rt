@@ -3,7 +3,7 @@ ghost use Rattle.std.specs.Prelude.{◌≡◌, ◌≤◌, ◌*◌, ◌/◌, [], 
 ghost use Rattle.std.specs.Option.{ForSome};
 ghost use Rattle.stale_state.specs.Fit.{AreFitAll};
 ghost use Rattle.stale_state.specs.Listed.{IsOfEnds, facts_in, nodes_in};
-ghost use Rattle.script_grammar.specs.Rules.{is_report};
+ghost use Rattle.script_grammar.specs.Rules.{asks_adverts, is_report};
 ghost use Rattle.script_state.specs.Events.{event_of};
 ghost use Rattle.script_state.specs.Fitness.{ArePlaced, fit_all_prop};
 ghost use Rattle.script_state.specs.Forcing.{IsOfNet};
@@ -37,6 +37,8 @@ pub struct ScriptState {
     /// The same names, as faults tell them.
     pub end_names: Vec<EndName>,
     pub topology: Topology,
+    /// The ends of which a line says the latency.
+    pub timed: Vec<u16>,
     /// The routing in force, from the first tree that moved on.
     pub force: Option<Routing>,
     /// What is left over at the nodes.
@@ -53,6 +55,8 @@ pub struct ScriptState {
     pub begun: bool,
     /// How many reports there are, at most 16.
     pub reports: usize,
+    /// How many lines ask what the paths offer, at most 16.
+    pub adverts: usize,
     pub ghost minute: { unwrap_or period 30000 ≤ 60000 },
     pub ghost long: { 1 ≤ unwrap_or period 30000 / 4 },
     pub ghost quarters: { 4 * (unwrap_or period 30000 / 4) ≡ unwrap_or period 30000 },
@@ -63,6 +67,8 @@ pub struct ScriptState {
     pub ghost began: { begun ≡ nat_lt 0 (length events.items) },
     pub ghost counted: { reports ≡ count_by is_report (map event_of events.items) },
     pub ghost few_reports: { reports ≤ 16 },
+    pub ghost asked: { adverts ≡ count_by asks_adverts (map event_of events.items) },
+    pub ghost few_adverts: { adverts ≤ 16 },
     pub ghost of_net: { ForSome force (λ routing. IsOfNet topology routing) },
     // Each end has a name.
     pub ghost ends_there: { length names ≡ length topology.ends },
@@ -91,6 +97,7 @@ impl ScriptState {
             names: NameTable::new(alloc),
             end_names: Vec::new(alloc),
             topology: Topology::new(alloc)?,
+            timed: Vec::new(alloc),
             force: None,
             left: Leavings::new(alloc),
             sessions: Vec::new(alloc),
@@ -99,6 +106,7 @@ impl ScriptState {
             events: History::new(),
             begun: false,
             reports: 0,
+            adverts: 0,
         })
     }
 

@@ -19,7 +19,7 @@ known_step q o s u calm a = record {
 }
 
 pub known_at_first : (q : ℕ) (w : World) → AreBounds q w → IsKnown q w w
-known_at_first q w bounds = record { bounds = bounds; same = record { net = refl; trees = refl; senders = λ n. refl; locals = refl } }
+known_at_first q w bounds = record { bounds = bounds; same = record { net = refl; trees = refl; senders = λ n. refl; advertised = λ n. refl; locals = refl } }
 
 pub known_visited : (q : ℕ) (w : World) (ss : List Step) → AreQuiet (machine q) ss → AreBounds q w → Visited (machine q) (IsKnown q w) ss w
 known_visited q w ss quiet bounds =

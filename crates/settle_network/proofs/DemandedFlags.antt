@@ -325,7 +325,7 @@ module _ (q : ℕ) (u : World) (a : HasSettledFlags q u) (names : List (List ℕ
       by (Some name) (Some x) at =
           let inside : e < length u.net.ends = slice_get_within u.net.ends e x at in
           let node : node_of u.net.ends e ≡ x.node = ap node_of_end at in
-          let f = node_there q u a.bounds.net u e (record { bounds = a.bounds; same = record { net = refl; trees = refl; senders = λ n. refl; locals = refl } }) inside in
+          let f = node_there q u a.bounds.net u e (record { bounds = a.bounds; same = record { net = refl; trees = refl; senders = λ n. refl; advertised = λ n. refl; locals = refl } }) inside in
           let there : slice_get u.nodes x.node ≡ Some f.0 = ap (λ (z : ℕ). slice_get u.nodes z) (sym node) ∙ f.1 in
           ap (with_parts (kept e) (Some name) (Some x)) there
           ∙ ap (λ (z : ℕ). flags_report (config_of q u.net u.trees z) name x (iface_of u.net.ends e) f.0) (sym node)

@@ -86,7 +86,7 @@ path_right q w bounds hosts k t h live there f a x e s =
     }
 
 pub known_self : (q : ℕ) (w : World) → AreBounds q w → IsKnown q w w
-known_self q w bounds = record { bounds = bounds; same = record { net = refl; trees = refl; senders = λ n. refl; locals = refl } }
+known_self q w bounds = record { bounds = bounds; same = record { net = refl; trees = refl; senders = λ n. refl; advertised = λ n. refl; locals = refl } }
 
 none_is : {A : Type 0} (o : Option A) → is_some o ≡ false → o ≡ None
 none_is None e = refl

@@ -237,7 +237,7 @@ module _ (q j : ℕ) (d : SenderKey) (u : World) (fading : IsFading q d u) where
           let here : f.0 ≡ r.facts = of_some f.0 r.facts (sym f.1 ∙ r.there) in
           let before : get r.facts.paths (k.session, k.sender) ≡ Some x = ap (λ (z : SenderKey). get r.facts.paths z) same ∙ ap (λ (z : Facts). get z.paths d) (sym here) ∙ f.2 in
           let nobody : get r.facts.senders (k.session, k.sender) ≡ None = ap (λ (z : SenderKey). get r.facts.senders z) same ∙ none_local r.node r.facts r.there in
-          let old : offer_at r.facts k ≡ Some (path_offer x) = (λ z. or_else (option_map own_offer (nobody z)) (option_map path_offer (before z))) in
+          let old : offer_at r.facts k ≡ Some (path_offer x) = (λ z. or_else (option_map (own_offer (has r.facts.advertised (k.session, k.sender))) (nobody z)) (option_map path_offer (before z))) in
           let was : get (offers p r.facts) k ≡ Some (path_offer x) = offers_by_way p r.facts k ∙ ap (λ (z : Bool). cond z (offer_at r.facts k) None) at.way ∙ old in
           let new : is_new_offer p k.iface o (Some (path_offer x)) ≡ true = ap (λ (z : Option Offer). is_new_offer p k.iface o z) (sym was) ∙ w.4 in
           let as_was : o ≡ path_offer x = (λ z. record { tspec = l.tspec z; local = l.local z; advert = l.advert z }) in

@@ -207,7 +207,13 @@ module _ (q : ℕ) (s : Session) where
       subst (λ (w : World). IsReserving q s w × ((y : Item) → In y w.flight → Quiet (j + suc n) w y) × IsSameNet u w) (sym is) (
         d.0,
         λ y i. subst (λ (z : ℕ). Quiet z (after_passes q n v) y) sum (d.1 y i),
-        record { net = d.2.net ∙ same.net; trees = d.2.trees ∙ same.trees; senders = λ x. d.2.senders x ∙ same.senders x; locals = d.2.locals ∙ same.locals },
+        record {
+          net = d.2.net ∙ same.net;
+          trees = d.2.trees ∙ same.trees;
+          senders = λ x. d.2.senders x ∙ same.senders x;
+          advertised = λ x. d.2.advertised x ∙ same.advertised x;
+          locals = d.2.locals ∙ same.locals;
+        },
       )
 
   nothing_low : (u : World) → IsReserving q s u → (y : Item) → In y u.flight → Quiet 0 u y

@@ -13,7 +13,7 @@ use Rattle.rsvp_base.specs.declared.style.StyleKind.TheVariants.{Wild, Fixed, Sh
 use Rattle.rsvp_base.specs.declared.style.Unit.TheVariants.{One, Of}
 use Rattle.rsvp_base.specs.Members.{In}
 use Rattle.rsvp_base.specs.Orders.{Names, sessions, styles}
-use Rattle.rsvp_base.specs.Sets.{set_of}
+use Rattle.rsvp_base.specs.Sets.{Set, set_of}
 use Rattle.rsvp_base.specs.Table.{Table, empty, get, has, keys}
 use Rattle.rsvp_base.specs.TokenBucket.{IsSound, TokenBucket}
 use Rattle.rsvp_base.proofs.Members.{in_append, in_each}
@@ -33,9 +33,9 @@ use Rattle.laws_steps.specs.BlameLaws.{IsPassedOn, IsRefusal}
 use Rattle.laws_steps.proofs.Blaming.{where_an_error_with_a_flow_comes_from}
 use Rattle.laws_steps.proofs.Framing.{left_as_it_was}
 use Rattle.router_rules.specs.declared.answers.LocalErr.{LocalErr}
-use Rattle.router_rules.specs.Calls.{call_refusal, unless, wanted, wants_with, SendersOf, senders_with}
+use Rattle.router_rules.specs.Calls.{advertised_with, call_refusal, unless, wanted, wants_with, SendersOf, senders_with}
 use Rattle.router_rules.specs.Facts.{Facts, PathState, ResvState, SenderKey, Want, WantKey, resvs_of, sender_keys, table_of}
-use Rattle.router_rules.specs.Inputs.{Call, Came, Local, Spelt, Wait, WantAs, DropAs, QuitAll, SendAs}
+use Rattle.router_rules.specs.Inputs.{Call, Came, Local, Spelt, Wait, WantAs, DropAs, AdvertAs, QuitAll, SendAs}
 use Rattle.router_rules.specs.Known.{known, names_via}
 use Rattle.router_rules.specs.NodeConfig.{NodeConfig, own}
 use Rattle.router_rules.specs.Requests.{toward}
@@ -77,7 +77,7 @@ use Rattle.settle_passes.proofs.Reserving.{all_append, last_before, ready}
 use Rattle.settle_passes.proofs.Turns.{Turns, addressed_in_turn, news}
 use Rattle.settle_resvs.proofs.Accepting.{fits_again}
 use Rattle.settle_network.specs.Settled.{HasSettled}
-use Rattle.laws_inputs.specs.Frames.{calls_on_senders}
+use Rattle.laws_inputs.specs.Frames.{calls_on_advertised, calls_on_senders}
 use Rattle.settle_paths.proofs.PreviousHops.{via_is}
 use Rattle.settle_paths.specs.PreviousHops.{IsPrevious}
 use Rattle.settle_resvs.proofs.SoundResvs.{part_again}
@@ -102,7 +102,16 @@ pub senders_left : (l : Local) → calls_on_senders l ≡ false → (t : Senders
 senders_left (SendAs s x tspec) e t = absurd (cc)
 senders_left (DropAs s x) e t = absurd (cc)
 senders_left (WantAs s st names flow mark) e t = refl
+senders_left (AdvertAs s x) e t = refl
 senders_left (QuitAll s) e t = refl
+
+-- nor does one that speaks of no advertised sender change which are advertised
+pub advertised_left : (l : Local) → calls_on_advertised l ≡ false → (t : Set sender_keys) → advertised_with l t ≡ t
+advertised_left (SendAs s x tspec) e t = refl
+advertised_left (DropAs s x) e t = absurd (cc)
+advertised_left (AdvertAs s x) e t = absurd (cc)
+advertised_left (WantAs s st names flow mark) e t = refl
+advertised_left (QuitAll s) e t = refl
 
 -- the wants of a call are of its session and style
 wanted_told : (s : Session) (st : StyleKind) (names : Names) (flow : TokenBucket) (mark : Bool) (k : WantKey) (x : Want) → In (k, x) (wanted s st names flow mark) → (k.0 ≡ s) × (x.style ≡ st)

@@ -1,6 +1,6 @@
 -- After a release nothing is in flight in the end, where nobody waits to be confirmed: a node that takes a Resv without a wish, or a
 -- ResvTear, sends such alone.
-use Rattle.laws_inputs.proofs.Framing.{act_paths, act_senders, act_wants, wants_then}
+use Rattle.laws_inputs.proofs.Framing.{act_advertised, act_paths, act_senders, act_wants, wants_then}
 use Rattle.laws_inputs.proofs.Knowing.{known_and_via}
 use Rattle.laws_inputs.proofs.Lists.{none_in}
 use Rattle.laws_inputs.proofs.Stepping.{send_told}
@@ -23,7 +23,7 @@ use Rattle.network_model.specs.Steps.{Deliver, Step, outcome, sent, step, still,
 use Rattle.network_model.specs.Worlds.{Item, World}
 use Rattle.router_rules.specs.Act.{act, act_spelt, is_mine}
 use Rattle.router_rules.specs.Asking.{act_resv, answered, ask_of, asked_of, asker_of, err_place, err_places, errors_in_order, heard_of, stays, taking}
-use Rattle.router_rules.specs.Facts.{Facts, Want, WantKey, Wants, wants_in}
+use Rattle.router_rules.specs.Facts.{Facts, Want, WantKey, Wants, sender_keys, wants_in}
 use Rattle.router_rules.specs.Inputs.{Came, Change, ConfSend, ErrMsg, ErrSend, Input, OfPath, OfResv, Send, Spelt, in_order, put_in_order, Call, Local, QuitAll, WantAs}
 use Rattle.router_rules.specs.Known.{Lane}
 use Rattle.router_rules.specs.NodeConfig.{NodeConfig, own}
@@ -37,6 +37,7 @@ use Rattle.rsvp_base.proofs.SetLaws.{and_both}
 use Rattle.rsvp_base.proofs.UnderLaws.{get-under}
 use Rattle.rsvp_base.specs.Members.{In}
 use Rattle.rsvp_base.specs.Orders.{Names, sessions, units}
+use Rattle.rsvp_base.specs.Sets.{Set}
 use Rattle.rsvp_base.specs.Table.{get, has, empty, keys}
 use Rattle.rsvp_base.specs.TokenBucket.{TokenBucket, IsSound}
 use Rattle.rsvp_base.specs.declared.addr.Addr.{Addr}
@@ -75,13 +76,13 @@ use Rattle.tree_model.specs.declared.hops.End.{End}
 use Rattle.rsvp_messages.specs.declared.message.Message.TheVariants as message
 use Rattle.router_rules.specs.declared.answers.Heard.TheVariants as heard
 use Rattle.settle_releases.proofs.TakenBack.{names_of_tear, style_of_tear}
-use Rattle.settle_releases.proofs.Releasing.{in_flight_then, quit_kept, quit_recedes, settled_recedes, some_session, turns as called_turns, unless_same, less_recedes, senders_left}
+use Rattle.settle_releases.proofs.Releasing.{in_flight_then, quit_kept, quit_recedes, settled_recedes, some_session, turns as called_turns, unless_same, less_recedes, advertised_left, senders_left}
 use Rattle.router_rules.specs.Calls.{call_refusal, unless, wants_with, SendersOf, wanted}
 use Rattle.network_model.proofs.Quiet.{at_node_found}
 use Rattle.settle_releases.specs.Releases.{HasNoMark, after_quit, after_quits, AsksNoMore}
 use Rattle.router_rules.specs.declared.answers.LocalErr.{LocalErr}
 use Rattle.settle_network.specs.Settled.{HasSettled}
-use Rattle.laws_inputs.specs.Frames.{calls_on_senders}
+use Rattle.laws_inputs.specs.Frames.{calls_on_advertised, calls_on_senders}
 use Rattle.laws_inputs.proofs.Calling.{calls_leave}
 use Rattle.rsvp_base.specs.declared.style.StyleKind.{StyleKind}
 use Rattle.rsvp_base.specs.declared.style.StyleKind.TheVariants.{Fixed, Shared, Wild}
@@ -94,6 +95,7 @@ pub record IsUnanswered (p : NodeConfig) (c : ℕ) (input : Input) (f : Facts) :
   pub asked : (act p c input f).asked ≡ None
   pub fired : (s : Session) → has (act p c input f).fired s ≡ false
   pub senders : (act p c input f).facts.senders ≡ f.senders
+  pub advertised : (act p c input f).facts.advertised ≡ f.advertised
   pub paths : (act p c input f).facts.paths ≡ f.paths
   -- and no want of it has a mark
   pub unmarked : (k : WantKey) (x : Want) → get (act p c input f).facts.wants k ≡ Some x → x.confirm ≡ false
@@ -136,7 +138,7 @@ module _ (p : NodeConfig) (c : ℕ) (input : Input) (f : Facts) (q : IsUnanswere
   after = settled p c f change.facts
 
   same_offers : offers p f ≡ offers p after
-  same_offers = λ j. offers p (record f { senders = sym q.senders j; paths = sym q.paths j })
+  same_offers = λ j. offers p (record f { senders = sym q.senders j; advertised = sym q.advertised j; paths = sym q.paths j })
 
   no_path : (s : Send) → IsPath p p f after change s → ⊥
   no_path s x =
@@ -186,6 +188,7 @@ module _ (p : NodeConfig) (c e : ℕ) (dst : Addr) (m : ResvTearMsg) (f : Facts)
     asked = not_asked (is_mine p e dst (message.ResvTear m));
     fired = none_fired (is_mine p e dst (message.ResvTear m));
     senders = act_senders p c tears f refl;
+    advertised = act_advertised p c tears f refl;
     paths = act_paths p c tears f refl;
     unmarked = λ k x h. unmarked k x (ap (λ (t : Wants). get t k) (sym (act_wants p c tears f refl)) ∙ h);
   }
@@ -227,6 +230,7 @@ module _ (p : NodeConfig) (c e : ℕ) (m : ResvMsg) (f : Facts) (gs : List Line)
     asked = ap (λ (k : Change). k.asked) act_is ∙ ap (λ (w : Option Addr). asked_of (asker_of p c e m) (ask_of (ask_style m.ask) (taking p c e m f).taken) w) none;
     fired = λ s. ap (λ (k : Change). has k.fired s) act_is;
     senders = act_senders p c asks f refl;
+    advertised = act_advertised p c asks f refl;
     paths = act_paths p c asks f refl;
     unmarked = λ k x h. unmarked k x (ap (λ (t : Wants). get t k) (sym (act_wants p c asks f refl)) ∙ h);
   }
@@ -409,7 +413,7 @@ nothing_flies q before w r =
 
 -- ---- a call that asks for no more, and for no confirmation
 module _ (q n : ℕ) (call : Local) (before : List Facts) (w : World) (r : IsSilent q before w) (fit : IsFitCall call) (spares : calls_on_senders call ≡ false)
-    (recede : (s : Session) → IsReceding q s before (step q (At n call) w))
+    (keeps_marks : calls_on_advertised call ≡ false) (recede : (s : Session) → IsReceding q s before (step q (At n call) w))
     (marks : (m : ℕ) (f : Facts) → slice_get w.nodes m ≡ Some f → (o : Option LocalErr) (k : WantKey) (x : Want)
     → get (unless o (wants_with call f.wants) f.wants) k ≡ Some x → x.confirm ≡ false) where
   abbrev follows_then : (m : ℕ) (f : Facts) → slice_get w.nodes m ≡ Some f → (outcome q (At n call) w m f ≡ still f) ⊎ Turns q (At n call) w m f
@@ -425,6 +429,7 @@ module _ (q n : ℕ) (call : Local) (before : List Facts) (w : World) (r : IsSil
         asked = refl;
         fired = λ s. refl;
         senders = ap (λ (t : SendersOf). unless (call_refusal p call f) t f.senders) (senders_left call spares f.senders) ∙ unless_same (call_refusal p call f) f.senders;
+        advertised = ap (λ (t : Set sender_keys). unless (call_refusal p call f) t f.advertised) (advertised_left call keeps_marks f.advertised) ∙ unless_same (call_refusal p call f) f.advertised;
         paths = refl;
         unmarked = λ k x e. marks m f at (call_refusal p call f) k x e;
       } in
@@ -459,7 +464,7 @@ silent_quits : (q : ℕ) (before : List Facts) (xs : List (ℕ × Session)) (w :
 silent_quits q before [] w r = (r, refl)
 silent_quits q before (x ∷ xs) w r =
     silent_quits q before xs (after_quit q x.0 x.1 w)
-    (silent_then q x.0 (QuitAll x.1) before w r tt refl (λ s. quit_recedes q x.0 x.1 before w s (r.receding s)) (quit_marks x.1 w r.unmarked))
+    (silent_then q x.0 (QuitAll x.1) before w r tt refl refl (λ s. quit_recedes q x.0 x.1 before w s (r.receding s)) (quit_marks x.1 w r.unmarked))
 
 pub a_release_leaves_nothing_in_flight : (q : ℕ) (xs : List (ℕ × Session)) (w : World) → IsStart q w → HasSettled q w → w.flight ≡ [] → HasNoMark w
     → (after_passes q (longest w.net) (after_quits q xs w)).flight ≡ []
@@ -489,5 +494,5 @@ pub less_leaves_nothing_in_flight : (q n : ℕ) (s : Session) (st : StyleKind) (
 less_leaves_nothing_in_flight q n s st ns flow w start settled_now empty_flight unmarked list sound no_more =
     let r = settled_silent q w start settled_now empty_flight unmarked in
     nothing_flies q w.nodes (after_want q n s st ns flow false w)
-    (silent_then q n (WantAs s st ns flow false) w.nodes w r (list, sound) refl (λ c. less_recedes q n s st ns flow false w no_more (list, sound) w.nodes c (r.receding c))
+    (silent_then q n (WantAs s st ns flow false) w.nodes w r (list, sound) refl refl (λ c. less_recedes q n s st ns flow false w no_more (list, sound) w.nodes c (r.receding c))
     (want_marks s st ns flow w unmarked))

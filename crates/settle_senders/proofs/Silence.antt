@@ -10,6 +10,7 @@ use Rattle.rsvp_base.specs.declared.session.Sender.{Sender}
 use Rattle.rsvp_base.specs.declared.session.Session.{Session}
 use Rattle.rsvp_base.specs.Members.{In}
 use Rattle.rsvp_base.specs.Orders.{Names}
+use Rattle.rsvp_base.specs.Sets.{Set}
 use Rattle.rsvp_base.specs.Table.{Table, get, has}
 use Rattle.rsvp_base.specs.TokenBucket.{IsSound, TokenBucket}
 use Rattle.rsvp_base.proofs.Members.{in_append, in_each}
@@ -24,9 +25,9 @@ use Rattle.rsvp_messages.specs.Units.{tear_style}
 use Rattle.style_rules.specs.PartLaws.{part_at_most_told}
 use Rattle.style_rules.specs.Toward.{or_else}
 use Rattle.laws_inputs.specs.FactLaws.{is_way}
-use Rattle.laws_inputs.specs.Frames.{on_senders}
+use Rattle.laws_inputs.specs.Frames.{on_advertised, on_senders}
 use Rattle.laws_inputs.specs.SendLaws.{IsConf, IsError, IsPath, IsPathTear, IsResv, IsResvTear}
-use Rattle.laws_inputs.proofs.Framing.{act_senders, act_wants}
+use Rattle.laws_inputs.proofs.Framing.{act_advertised, act_senders, act_wants}
 use Rattle.laws_inputs.proofs.Lists.{none_in}
 use Rattle.laws_inputs.proofs.Offering.{offers_by_way}
 use Rattle.laws_inputs.proofs.Stepping.{send_told}
@@ -291,9 +292,12 @@ module _ (q : ℕ) (u : World) (bounds : AreBounds q u) (no_tear : HasNoPathTear
       let paths : get now.paths (w.0.session, w.0.sender) ≡ get r.facts.paths (w.0.session, w.0.sender) =
       sym (ap (λ (z : Outcome). get z.facts.paths (w.0.session, w.0.sender)) r.by.is) ∙ same in
       let calm : on_senders r.by.input ≡ false = ap on_senders came.is in
+      let quiet : on_advertised r.by.input ≡ false = ap on_advertised came.is in
       let senders : get now.senders (w.0.session, w.0.sender) ≡ get r.facts.senders (w.0.session, w.0.sender) =
       ap (λ (z : Table sender_keys TokenBucket). get z (w.0.session, w.0.sender)) (act_senders p c r.by.input r.facts calm) in
-      let offer_same : offer_at now w.0 ≡ offer_at r.facts w.0 = (λ j. or_else (option_map own_offer (senders j)) (option_map path_offer (paths j))) in
+      let told : has now.advertised (w.0.session, w.0.sender) ≡ has r.facts.advertised (w.0.session, w.0.sender) =
+      ap (λ (z : Set sender_keys). has z (w.0.session, w.0.sender)) (act_advertised p c r.by.input r.facts quiet) in
+      let offer_same : offer_at now w.0 ≡ offer_at r.facts w.0 = (λ j. or_else (option_map (own_offer (told j)) (senders j)) (option_map path_offer (paths j))) in
       let old_offer : get (offers p r.facts) w.0 ≡ Some w.1 =
       offers_by_way p r.facts w.0 ∙ ap (λ (z : Option Offer). cond (is_way p w.0) z None) (sym offer_same) ∙ sym (offers_by_way p now w.0) ∙ w.3 in
       let bad : true ≡ false = sym w.4 ∙ ap (λ (z : Option Offer). is_new_offer p w.0.iface w.1 z) old_offer ∙ not_new p w.0.iface w.1 in

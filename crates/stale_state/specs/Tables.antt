@@ -23,7 +23,7 @@ tables_of wild fixed shared = record { wild = changed (resv_at 0) wild; fixed = 
 
 -- a node that has learnt this, and has no local senders and wants
 abbrev pub learnt : Paths → ResvTables → Walls → Facts
-learnt paths resvs walls = record { senders = empty; wants = empty; paths = paths; resvs = resvs; walls = walls; due = empty }
+learnt paths resvs walls = record { senders = empty; advertised = empty; wants = empty; paths = paths; resvs = resvs; walls = walls; due = empty }
 
 abbrev pub only_resvs : ResvTables → Facts
 only_resvs resvs = learnt empty resvs empty

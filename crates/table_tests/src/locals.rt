@@ -63,7 +63,18 @@ fn a_full_table_of_senders_takes_a_sender_of_its_own_anew(rt: HostRuntime) -> Re
     let high = flow(20).ok_or("high")?;
     assert!(rt; fill(&mut table, low) == (32, 16));
     assert!(rt; table.put(session(5), sender(3), high) == Ok(()));
-    assert!(rt; table.find(session(5), sender(3)) == Some(high));
+    let found = table.find(session(5), sender(3)).ok_or("found")?;
+    assert!(rt; found.tspec == high && !found.advertised);
+
+    // One that is advertised stays so where it announces something else, until it goes.
+    assert!(rt; table.advertise(session(5), sender(3)) && !table.advertise(session(5), sender(16)));
+    assert!(rt; table.put(session(5), sender(3), low) == Ok(()));
+    let kept = table.find(session(5), sender(3)).ok_or("kept")?;
+    assert!(rt; kept.tspec == low && kept.advertised);
+    assert!(rt; table.remove(session(5), sender(3)));
+    assert!(rt; table.put(session(5), sender(3), low) == Ok(()));
+    let anew = table.find(session(5), sender(3)).ok_or("anew")?;
+    assert!(rt; !anew.advertised);
 
     // Where the last sender of a session goes, there is room for another session.
     assert!(rt; table.remove(session(7), sender(0)) && !table.remove(session(7), sender(0)));

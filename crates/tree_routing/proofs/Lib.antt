@@ -6,6 +6,7 @@ pub mod Loops
 pub mod Carried
 pub mod ValidReroutes
 pub mod ValidMore
+pub mod Latencies
 pub mod LevelLaws
 pub mod KeyLaws
 pub mod HopLaws

@@ -551,7 +551,7 @@ few_ends_in_all net valid =
 same_and : (a b c : Bool) → b ≡ c → (a && b) ≡ (a && c)
 same_and a b c e = ap (λ (x : Bool). a && x) e
 
-vertex_before_same : (ends next : List End) (r : TreeHop) (ks : List Known) → ((k : Known) → In k ks → comes_to next r k ≡ comes_to ends r k) → vertex_before next r ks ≡ vertex_before ends r ks
+pub vertex_before_same : (ends next : List End) (r : TreeHop) (ks : List Known) → ((k : Known) → In k ks → comes_to next r k ≡ comes_to ends r k) → vertex_before next r ks ≡ vertex_before ends r ks
 vertex_before_same ends next r [] same = refl
 vertex_before_same ends next r (k ∷ ks) same =
     ap (λ (b : Bool). if b then Some k.vertex else vertex_before next r ks) (same k (inl refl))

@@ -1,5 +1,5 @@
 -- What a topology answers for a hop.
-use Rattle.std.specs.Prelude.{◌≡◌, ◌⊎◌, ℕ, ◌+◌, nat_le, if◌then◌else◌, ◌<◌, ◌≤◌, List, [], ◌∷◌, ◌++◌, Result, Ok, Err, length, map as each, None}
+use Rattle.std.specs.Prelude.{◌≡◌, ◌⊎◌, ℕ, zero, suc, ◌+◌, nat_le, if◌then◌else◌, ◌<◌, ◌≤◌, List, [], ◌∷◌, ◌++◌, Result, Ok, Err, length, map as each, None}
 use Rattle.rsvp_base.specs.Members.{In}
 use Rattle.rsvp_base.specs.declared.addr.Addr.{Addr}
 use Rattle.tree_model.specs.declared.hops.End.{End}
@@ -22,6 +22,15 @@ with_node net = record { nodes = net.nodes + 1; ends = net.ends; links = net.lin
 
 abbrev pub with_end : Net → End → Net
 with_end net e = record { nodes = net.nodes; ends = net.ends ++ e ∷ []; links = net.links; hops = net.hops }
+
+-- with this latency of an end, where it is there
+abbrev pub ends_with_latency : List End → ℕ → ℕ → List End
+ends_with_latency [] e latency = []
+ends_with_latency (x ∷ xs) zero latency = (record x { iface = record x.iface { latency = latency } }) ∷ xs
+ends_with_latency (x ∷ xs) (suc e) latency = x ∷ ends_with_latency xs e latency
+
+abbrev pub with_latency : Net → ℕ → ℕ → Net
+with_latency net e latency = record { nodes = net.nodes; ends = ends_with_latency net.ends e latency; links = net.links; hops = net.hops }
 
 -- numbers in order
 abbrev pub put_number : ℕ → List ℕ → List ℕ

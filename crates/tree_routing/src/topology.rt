@@ -6,7 +6,7 @@ ghost use Rattle.tree_model.specs.declared.hops.TreeHop.{TreeHop};
 ghost use Rattle.tree_model.specs.Networks.{Net, node_of, ends_of, iface_of, link_of, owner};
 ghost use Rattle.tree_model.specs.Valid.{IsValid};
 ghost use Rattle.tree_routing.specs.Known.{net_of, vertex_at, vertex_before};
-ghost use Rattle.tree_routing.specs.Answers.{no_net, TakesEnd, TakesLink, with_node, with_end, with_link, with_hop, Fits, HopAnswer};
+ghost use Rattle.tree_routing.specs.Answers.{no_net, TakesEnd, TakesLink, with_node, with_end, with_link, with_hop, Fits, HopAnswer, with_latency};
 
 use crate::ask::{are_apart, are_free, link_of, node_of, owner};
 use crate::growing::{can_grow, know};
@@ -142,6 +142,14 @@ impl Topology {
             return Err(NoMemory);
         }
         Ok(number)
+    }
+
+    /// The latency of an end's interface, in microseconds, from now on.
+    pub fn set_latency(&mut self, end: u16, latency: u32)
+        requires { end < length self.old.ends }
+        ensures { self.new ≡ with_latency self.old end latency }
+    {
+        self.ends[end as usize].iface.latency = latency;
     }
 
     /// Whether there is room for another link: there are fewer than 512.

@@ -1,10 +1,10 @@
 //! Lines of part 1: what is declared.
 ghost use Rattle.std.specs.Prelude.{◌≡◌, map};
 ghost use Rattle.script_words.specs.Unread.{Reads};
-ghost use Rattle.script_grammar.specs.LineKinds.{end_line, hop_line, link_line, node_line, period_line, seed_line};
+ghost use Rattle.script_grammar.specs.LineKinds.{end_line, hop_line, latency_line, link_line, node_line, period_line, seed_line};
 
 use super::lists::names;
-use crate::line::{EndLine, HopEnds, HopLine, ScriptLine};
+use crate::line::{EndLine, HopEnds, HopLine, LatencyLine, ScriptLine};
 use crate::list::LinkEnds;
 use rsvp_base::EndName;
 use script_words::{DottedQuad, Unread, number};
@@ -51,6 +51,19 @@ pub fn end_line(words: &[&[u8]]) -> Option<ScriptLine>
             addr: DottedQuad::of(addr)?,
             capacity: number(capacity)?,
             mtu: number(mtu)?,
+        })),
+        _ => None,
+    }
+}
+
+#[tactic(auto, unfolding(crate::specs::LineKinds::latency_line))]
+pub fn latency_line(words: &[&[u8]]) -> Option<ScriptLine>
+    ensures { result ≡ latency_line (map (λ w. w.now) words.now) }
+{
+    match words {
+        [end, latency] => Some(ScriptLine::Latency(LatencyLine {
+            end: EndName::of(end)?,
+            latency: number(latency)?,
         })),
         _ => None,
     }

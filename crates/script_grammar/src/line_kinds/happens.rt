@@ -1,7 +1,7 @@
 //! Lines of part 3: what happens.
 ghost use Rattle.std.specs.Prelude.{◌≡◌, map};
 ghost use Rattle.script_words.specs.Unread.{Reads, ReadsAs};
-ghost use Rattle.script_grammar.specs.LineKinds.{clear_line, drop_line, flags_line, inject_line, lone_number, numbered, pass_line, quit_line, report_line, reroute_line, send_line};
+ghost use Rattle.script_grammar.specs.LineKinds.{advert_line, adverts_line, clear_line, drop_line, flags_line, inject_line, lone_number, numbered, pass_line, quit_line, report_line, reroute_line, send_line};
 ghost use Rattle.script_grammar.specs.LineKinds.{trace_line, want_line, want_of};
 ghost use Rattle.script_grammar.specs.declared.line.ScriptLine.TheVariants as kind;
 
@@ -22,6 +22,20 @@ pub fn send_line(words: &[&[u8]]) -> Option<ScriptLine>
             session: SessionWord::of(session)?,
             sender: SenderWord::of(sender)?,
             flow: FlowWord::of(flow)?,
+        })),
+        _ => None,
+    }
+}
+
+#[tactic(auto, unfolding(crate::specs::LineKinds::advert_line))]
+pub fn advert_line(words: &[&[u8]]) -> Option<ScriptLine>
+    ensures { result ≡ advert_line (map (λ w. w.now) words.now) }
+{
+    match words {
+        [node, session, sender] => Some(ScriptLine::Advert(DropLine {
+            node: EndName::of(node)?,
+            session: SessionWord::of(session)?,
+            sender: SenderWord::of(sender)?,
         })),
         _ => None,
     }
@@ -191,6 +205,16 @@ pub fn flags_line(words: &[&[u8]]) -> Option<ScriptLine>
 {
     match words {
         [] => Some(ScriptLine::Flags),
+        _ => None,
+    }
+}
+
+#[tactic(auto, unfolding(crate::specs::LineKinds::adverts_line))]
+pub fn adverts_line(words: &[&[u8]]) -> Option<ScriptLine>
+    ensures { result ≡ adverts_line (map (λ w. w.now) words.now) }
+{
+    match words {
+        [] => Some(ScriptLine::Adverts),
         _ => None,
     }
 }

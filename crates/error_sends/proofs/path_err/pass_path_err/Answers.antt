@@ -1,4 +1,4 @@
-use Rattle.std.proofs.Common.{ℕ, fold, is_some, sym, ap, ◌∙◌}
+use Rattle.std.proofs.Common.{ℕ, fold, sym, ap, ◌∙◌}
 use Rattle.path_state.specs.Paths.{path_keys}
 use Rattle.path_state.specs.declared.fact.PathFact.{PathFact}
 use Rattle.rsvp_base.specs.Table.{Table, get, has}
@@ -31,20 +31,20 @@ pub returns-then-is_some-clause-heard : goal.returns-then-is_some-clause-heard
 returns-then-is_some-clause-heard g c = λ clock n place senders paths.
     local_heard clock n c.args.iface c.args.message.now c.in-Some.sender c.in-Some.is (ap (λ (p : NodeConfig). goes_out p c.args.message.now.session c.args.iface c.in-Some.sender) place
     ∙ sym c.goes_out.ensures ∙ c.if-not-goes_out.false)
-    (ap (λ (t : Table sender_keys TokenBucket). has t (c.args.message.now.session, c.in-Some.sender)) senders ∙ ap is_some (sym c.find.ensures.flow) ∙ sym c.is_some.ensures ∙ c.if-is_some.true)
+    (ap (λ (t : Table sender_keys TokenBucket). has t (c.args.message.now.session, c.in-Some.sender)) senders ∙ sym c.find.ensures.there ∙ sym c.is_some.ensures ∙ c.if-is_some.true)
 
 pub returns-then-is_some-clause-sent : goal.returns-then-is_some-clause-sent
 returns-then-is_some-clause-sent g c = λ clock n place senders paths.
     ap (fold g.O.Outbox.posted c.args.out.now)
     (local_sent clock n c.args.iface c.args.message.now c.in-Some.sender c.in-Some.is (ap (λ (p : NodeConfig). goes_out p c.args.message.now.session c.args.iface c.in-Some.sender) place
     ∙ sym c.goes_out.ensures ∙ c.if-not-goes_out.false)
-    (ap (λ (t : Table sender_keys TokenBucket). has t (c.args.message.now.session, c.in-Some.sender)) senders ∙ ap is_some (sym c.find.ensures.flow) ∙ sym c.is_some.ensures ∙ c.if-is_some.true))
+    (ap (λ (t : Table sender_keys TokenBucket). has t (c.args.message.now.session, c.in-Some.sender)) senders ∙ sym c.find.ensures.there ∙ sym c.is_some.ensures ∙ c.if-is_some.true))
 
 pub returns-in_default-find-clause-heard : goal.returns-in_default-find-clause-heard
 returns-in_default-find-clause-heard g c = λ clock n place senders paths.
     unknown_heard clock n c.args.iface c.args.message.now c.in-Some.sender c.in-Some.is (ap (λ (p : NodeConfig). goes_out p c.args.message.now.session c.args.iface c.in-Some.sender) place
     ∙ sym c.goes_out.ensures ∙ c.if-not-goes_out.false)
-    (ap (λ (t : Table sender_keys TokenBucket). has t (c.args.message.now.session, c.in-Some.sender)) senders ∙ ap is_some (sym c.find.ensures.flow) ∙ sym c.is_some.ensures ∙ c.if-is_some.false)
+    (ap (λ (t : Table sender_keys TokenBucket). has t (c.args.message.now.session, c.in-Some.sender)) senders ∙ sym c.find.ensures.there ∙ sym c.is_some.ensures ∙ c.if-is_some.false)
     (ap (λ (t : Table path_keys (PathFact × ℕ)). get t (c.args.message.now.session, c.in-Some.sender)) paths
     ∙ no_path (get c.args.paths.now.facts (c.args.message.now.session, c.in-Some.sender)) c.in_default-find.ensures.fact)
 
@@ -53,7 +53,7 @@ returns-in_default-find-clause-sent g c = λ clock n place senders paths.
     ap (fold g.O.Outbox.posted c.args.out.now)
     (unknown_sent clock n c.args.iface c.args.message.now c.in-Some.sender c.in-Some.is (ap (λ (p : NodeConfig). goes_out p c.args.message.now.session c.args.iface c.in-Some.sender) place
     ∙ sym c.goes_out.ensures ∙ c.if-not-goes_out.false)
-    (ap (λ (t : Table sender_keys TokenBucket). has t (c.args.message.now.session, c.in-Some.sender)) senders ∙ ap is_some (sym c.find.ensures.flow) ∙ sym c.is_some.ensures ∙ c.if-is_some.false)
+    (ap (λ (t : Table sender_keys TokenBucket). has t (c.args.message.now.session, c.in-Some.sender)) senders ∙ sym c.find.ensures.there ∙ sym c.is_some.ensures ∙ c.if-is_some.false)
     (ap (λ (t : Table path_keys (PathFact × ℕ)). get t (c.args.message.now.session, c.in-Some.sender)) paths
     ∙ no_path (get c.args.paths.now.facts (c.args.message.now.session, c.in-Some.sender)) c.in_default-find.ensures.fact))
 
@@ -62,7 +62,7 @@ returns-clause-heard g c = λ clock n place senders paths.
     let found = found_path (get c.args.paths.now.facts (c.args.message.now.session, c.in-Some.sender)) c.in-Some-find.path.now c.in-Some-find.ensures.fact in
     on_heard clock n c.args.iface c.args.message.now c.in-Some.sender c.in-Some.is (ap (λ (p : NodeConfig). goes_out p c.args.message.now.session c.args.iface c.in-Some.sender) place
     ∙ sym c.goes_out.ensures ∙ c.if-not-goes_out.false)
-    (ap (λ (t : Table sender_keys TokenBucket). has t (c.args.message.now.session, c.in-Some.sender)) senders ∙ ap is_some (sym c.find.ensures.flow) ∙ sym c.is_some.ensures ∙ c.if-is_some.false)
+    (ap (λ (t : Table sender_keys TokenBucket). has t (c.args.message.now.session, c.in-Some.sender)) senders ∙ sym c.find.ensures.there ∙ sym c.is_some.ensures ∙ c.if-is_some.false)
     found.0 (ap (λ (t : Table path_keys (PathFact × ℕ)). get t (c.args.message.now.session, c.in-Some.sender)) paths ∙ found.1)
 
 pub returns-clause-sent : goal.returns-clause-sent
@@ -70,7 +70,7 @@ returns-clause-sent g c = λ clock n place senders paths.
     let found = found_path (get c.args.paths.now.facts (c.args.message.now.session, c.in-Some.sender)) c.in-Some-find.path.now c.in-Some-find.ensures.fact in
     let sent = on_sent clock n c.args.iface c.args.message.now c.in-Some.sender c.in-Some.is
     (ap (λ (p : NodeConfig). goes_out p c.args.message.now.session c.args.iface c.in-Some.sender) place ∙ sym c.goes_out.ensures ∙ c.if-not-goes_out.false)
-    (ap (λ (t : Table sender_keys TokenBucket). has t (c.args.message.now.session, c.in-Some.sender)) senders ∙ ap is_some (sym c.find.ensures.flow) ∙ sym c.is_some.ensures ∙ c.if-is_some.false)
+    (ap (λ (t : Table sender_keys TokenBucket). has t (c.args.message.now.session, c.in-Some.sender)) senders ∙ sym c.find.ensures.there ∙ sym c.is_some.ensures ∙ c.if-is_some.false)
     found.0 (ap (λ (t : Table path_keys (PathFact × ℕ)). get t (c.args.message.now.session, c.in-Some.sender)) paths ∙ found.1) in
     c.post.ensures ∙ ap (λ (f : PathFact). g.O.Outbox.posted c.args.out.now (once f.iface f.hop.addr (message.PathErr c.args.message.now))) (sym found.2)
     ∙ ap (fold g.O.Outbox.posted c.args.out.now) sent

@@ -22,20 +22,20 @@ abbrev of_row : LocalSender → Session
 of_row r = r.session
 
 -- the sessions of the rows are those of the senders
-all_rows : (c : After-as_slice-list) → each of_row c.as_slice-list.result.now ≡ each (λ (k : SenderKey). k.0) (keys c.args.senders.now)
+all_rows : (c : After-as_slice-list) → each of_row c.as_slice-list.result.now ≡ each (λ (k : SenderKey). k.0) (keys c.args.senders.now.tspecs)
 all_rows c =
     let list = c.as_slice-list.result.now in
-    sym (each_each sender_row (λ e. e.0.0) list) ∙ ap (each (λ e. e.0.0)) c.as_slice-list.ensures ∙ sym (each_each (λ e. e.0) (λ (k : SenderKey). k.0) c.args.senders.now.rows)
+    sym (each_each sender_row (λ e. e.0.0) list) ∙ ap (each (λ e. e.0.0)) c.as_slice-list.ensures ∙ sym (each_each (λ e. e.0) (λ (k : SenderKey). k.0) c.args.senders.now.tspecs.rows)
 
 pub begin-requires : goal.begin-requires
 begin-requires c = λ off.
     let d = (goal.at.begin-requires c).After-as_slice-list in
     let front = take c.loop-i.i c.as_slice-list.result.now in
     let less = fewer_rows (begun c.args.period) (set_of {o = sessions} (each of_row front)).rows in
-    let below = set_below sessions (each of_row front) (each (λ (k : SenderKey). k.0) (keys c.args.senders.now))
+    let below = set_below sessions (each of_row front) (each (λ (k : SenderKey). k.0) (keys c.args.senders.now.tspecs))
     (λ s i.
     let r = in_each of_row s front i in
-    let P : Session → Type 0 = λ z. In z (each (λ (k : SenderKey). k.0) (keys c.args.senders.now)) in
+    let P : Session → Type 0 = λ z. In z (each (λ (k : SenderKey). k.0) (keys c.args.senders.now.tspecs)) in
     subst P (sym r.2) (subst (λ zs. In (of_row r.0) zs) (all_rows d) (to_each of_row r.0 c.as_slice-list.result.now (in_front r.0 c.loop-i.i c.as_slice-list.result.now r.1)))) in
     omega (arith, ap size c.loop-i.invariant, less, below, c.limits.ensures.all)
 

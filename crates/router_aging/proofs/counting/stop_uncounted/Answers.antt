@@ -24,7 +24,7 @@ all_rows c =
     sym (each_each dead_key (λ (k : SenderKey). k.0) list) ∙ ap (each (λ (k : SenderKey). k.0)) c.as_slice-list.ensures.keys ∙ each_each (λ e. e.0) (λ (k : SenderKey). k.0) c.args.dead.now.rows
 
 pub loop-i-init : goal.loop-i-init
-loop-i-init c = stopped_none (counts c.args.senders.now c.args.paths.now.facts) c.args.due.now
+loop-i-init c = stopped_none (counts c.args.senders.now.tspecs c.args.paths.now.facts) c.args.due.now
 
 one_more : (test : Session → Bool) (due old new : Table sessions ℕ) (list : List DeadPath) (i : ℕ) (d : DeadPath) → i < length list
     → due ≡ kept (λ q. test q || not (any (take i (each of_row list)) q)) old
@@ -37,13 +37,13 @@ one_more test due old new list i d lt so_far again known is =
 
 pub loop-i-preserved : goal.loop-i-preserved
 loop-i-preserved c =
-    one_more (counts c.args.senders.now c.args.paths.now.facts) c.loop-i.due c.args.due.now c.stop_one.new.due c.as_slice-list.result.now c.loop-i.i _ c.loop-i-test.true c.loop-i.invariant
+    one_more (counts c.args.senders.now.tspecs c.args.paths.now.facts) c.loop-i.due c.args.due.now c.stop_one.new.due c.as_slice-list.result.now c.loop-i.i _ c.loop-i-test.true c.loop-i.invariant
     c.is_again.result c.is_again.ensures c.stop_one.ensures
 
 pub returns : goal.returns
 returns c =
     let d = (goal.at.returns c).After-as_slice-list in
-    let test = counts c.args.senders.now c.args.paths.now.facts in
+    let test = counts c.args.senders.now.tspecs c.args.paths.now.facts in
     let ss = each of_row c.as_slice-list.result.now in
     let many = length-map c.as_slice-list.result.now of_row in
     let all = take_all c.loop-i.i ss (omega (arith, many, c.loop-i-test.false)) in

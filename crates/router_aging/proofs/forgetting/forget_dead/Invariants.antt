@@ -9,7 +9,7 @@ use Rattle.router_aging.proofs.forgetting.forget_dead.Given as goal
 abbrev pub invariant-loop-i : goal.invariant-loop-i
 invariant-loop-i g l =
     record {
-      table : (c : ℕ) (n : State) → n.senders ≡ l.senders → n.paths ≡ l.paths.facts
+      table : (c : ℕ) (n : State) → n.senders ≡ l.senders.tspecs → n.paths ≡ l.paths.facts
           → l.table ≡ record l.initial.table { facts = forgotten_all (lost_names g.S.Style.kind_is (facts_of c n) (each dead_key (take l.i l.list))) l.initial.table.facts };
       kept : IsBookWith g.S.Style.kind_is l.table.facts l.book.entries;
       book : MovesWith g.S.Style.kind_is l.initial.table.facts l.table.facts l.initial.book.entries l.book.entries;

@@ -3,7 +3,8 @@ use Rattle.router_aging.proofs.Offers.{own_offered, path_offered}
 use Rattle.router_aging.proofs.telling.offered.Goals as goal
 
 pub returns-in-Some : goal.returns-in-Some
-returns-in-Some c = ap (λ o. Some o) c.own.ensures ∙ own_offered c.args.senders.now c.args.paths.now.facts (c.args.session, c.args.sender) c.in-Some.tspec c.in-Some.ensures.flow
+returns-in-Some c = ap (λ o. Some o) c.own.ensures ∙ own_offered c.args.senders.now c.args.paths.now.facts (c.args.session, c.args.sender) c.in-Some.own.tspec c.in-Some.own.advertised
+    c.in-Some.ensures.flow c.in-Some.ensures.advertised
 
 pub returns-in-Some-find : goal.returns-in-Some-find
 returns-in-Some-find c = ap (λ o. Some o) c.passed.ensures

@@ -24,7 +24,11 @@ returns-else-quit-clause-facts c = λ clock said.
     let none : nat_lt 0 (size (under sessions units m c.args.session)) ≡ false = sym c.quit.ensures.had ∙ c.if-quit.false in
     let same = c.quit.ensures.gone ∙ none_left m c.args.session none in
     (λ i. record f { wants = same i })
-    ∙ ap (λ (b : Bool). record f { senders = unless (needs b local.Absent None) f.senders f.senders; wants = unless (needs b local.Absent None) (left m c.args.session) m }) (sym none)
+    ∙ ap (λ (b : Bool). record f {
+      senders = unless (needs b local.Absent None) f.senders f.senders;
+      advertised = unless (needs b local.Absent None) f.advertised f.advertised;
+      wants = unless (needs b local.Absent None) (left m c.args.session) m;
+    }) (sym none)
 
 pub returns-else-quit-clause-err : goal.returns-else-quit-clause-err
 returns-else-quit-clause-err c =

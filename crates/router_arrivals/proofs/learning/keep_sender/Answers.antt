@@ -2,7 +2,8 @@ use Rattle.std.proofs.Common.{◌≡◌, ℕ, true, false, is_err, sym, ap, ◌�
 use Rattle.std.proofs.lemmas.Bool.{false≢true}
 use Rattle.rsvp_base.specs.Orders.{senders}
 use Rattle.rsvp_base.specs.SessionLimits.{has_room_at}
-use Rattle.rsvp_base.specs.Table.{Table, empty, has, put_in}
+use Rattle.local_state.specs.Rows.{Announced}
+use Rattle.rsvp_base.specs.Table.{empty, has, put_in}
 use Rattle.rsvp_base.specs.TokenBucket.{TokenBucket}
 use Rattle.rsvp_base.proofs.SessionRoom.{put_room}
 use Rattle.rsvp_base.proofs.SetLaws.{or_left}
@@ -32,14 +33,14 @@ module _ (c : After-put) where
       → has_room_at senders (put_in was.senders key c.args.tspec) c.args.session ≡ true
   room ok full = either _ (λ t. t) (λ f. absurd (false≢true (sym ok ∙ full f)))
 
-  abbrev kept_as : Table sender_keys TokenBucket → Tables
+  abbrev kept_as : Announced → Tables
   kept_as m = record c.args.tables.now { senders = m }
 
 pub returns-in_default-clause-room : goal.returns-in_default-clause-room
 returns-in_default-clause-room c = sym (c.in_default.ensures.full.0 refl)
 
 pub returns-in_default-clause-state : goal.returns-in_default-clause-state
-returns-in_default-clause-state c = let d = (goal.at.returns-in_default-clause-state c).After-put in ap (λ m. state_of (kept_as d m) empty) c.in_default.ensures.err
+returns-in_default-clause-state c = let d = (goal.at.returns-in_default-clause-state c).After-put in ap (λ (m : Announced). state_of (kept_as d m) empty) c.in_default.ensures.err
 
 pub begin-requires : goal.begin-requires
 begin-requires c = λ none.
@@ -57,4 +58,4 @@ returns-clause-state c =
     let d = (goal.at.returns-clause-state c).After-put in
     let own = c.in-Ok.ensures.ok in
     let due = c.begin.ensures ∙ (λ i. started (has c.args.tables.now.due c.args.session) c.args.session (c.period-period.ensures i) c.args.tables.now.due) in
-    λ i. record (was d) { senders = own i; due = due i }
+    λ i. record (was d) { senders = (own i).tspecs; advertised = (own i).advertised; due = due i }

@@ -16,7 +16,7 @@ returns-clause-change c = λ said x.
     let facts = sym (c.take_resv.ensures.facts 0 said) in
     resvs_changed (p.session, x) n (state_of c.take_resv.new.tables said)
     (λ st q off. take_away n.place 0 c.args.iface p (facts_of 0 n) st q off ∙ ap (λ (f : Facts). get (resvs_of st f) q) facts)
-    (ap (λ (t : Tables). t.config) rest) (ap (λ (t : Tables). t.senders) rest) (ap (λ (t : Tables). t.paths.facts) rest) (ap (λ (t : Tables). t.wants) rest) (ap (λ (t : Tables). t.walls) rest)
+    (ap (λ (t : Tables). t.config) rest) (ap (λ (t : Tables). t.senders.tspecs) rest) (ap (λ (t : Tables). t.senders.advertised) rest) (ap (λ (t : Tables). t.paths.facts) rest) (ap (λ (t : Tables). t.wants) rest) (ap (λ (t : Tables). t.walls) rest)
     (c.look.ensures said) (c.look-2.ensures said)
 
 pub returns-clause-sound : goal.returns-clause-sound

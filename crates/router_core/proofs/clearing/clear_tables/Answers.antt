@@ -20,7 +20,7 @@ returns-clause-state c = λ i.
       fixed = (c.clear-3.ensures i).facts;
       shared = (c.clear-4.ensures i).facts;
       walls = c.clear-5.ensures i;
-      due = (c.begin_all.ensures ∙ ap (λ p. all_begun p c.args.tables.now.senders) c.period-period.ensures) i;
+      due = (c.begin_all.ensures ∙ ap (λ p. all_begun p c.args.tables.now.senders.tspecs) c.period-period.ensures) i;
     }
 
 pub returns-clause-sound : goal.returns-clause-sound
@@ -33,7 +33,7 @@ returns-clause-sound c = record {
   };
   booked = λ clock i k.
       let n = state_of c.args.tables.now empty in
-      let due = c.begin_all.ensures ∙ ap (λ p. all_begun p c.args.tables.now.senders) c.period-period.ensures in
+      let due = c.begin_all.ensures ∙ ap (λ p. all_begun p c.args.tables.now.senders.tspecs) c.period-period.ensures in
       let state : _ ≡ cleared n = λ i.
       record n {
         paths = (c.clear.ensures i).facts;

@@ -1,6 +1,6 @@
 use Rattle.std.proofs.Common.{subst, ◌∙◌}
 use Rattle.std.proofs.lemmas.Result.{on_err_weaker}
-use Rattle.router_rules.specs.Inputs.{Call, DropAs, QuitAll, SendAs, WantAs}
+use Rattle.router_rules.specs.Inputs.{AdvertAs, Call, DropAs, QuitAll, SendAs, WantAs}
 use Rattle.router_rules.specs.Steps.{IsFitCall}
 use Rattle.live_router.specs.Bounded.{IsBounded}
 use Rattle.live_router.proofs.Doing.{sends_proper, stays_bounded}
@@ -18,6 +18,16 @@ invariant_of-self g c =
 
 pub returns-in-Send-clause-fit : goal.returns-in-Send-clause-fit
 returns-in-Send-clause-fit g c = λ clock. sends_proper c.args.self.now clock (Call (call_of c.args.call.now)) (subst IsBounded c.self.view_is c.self.invariant.bounded) c.requires
+
+pub invariant_of-self-in-Advert : goal.invariant_of-self-in-Advert
+invariant_of-self-in-Advert g c =
+    let fit = subst (λ (x : LocalCall). IsFitCall (call_of x)) c.in-Advert.is c.requires in
+    lives_on c.self.inside.node c.local_advert.new.self c.self.inside.spare.items c.self.invariant c.local_advert.ensures.place
+    (stays_bounded c.self.inside.node c.local_advert.new.self 0 (Call (AdvertAs c.in-Advert.session c.in-Advert.sender)) c.self.invariant.bounded c.local_advert.ensures.place fit
+    (c.local_advert.ensures.facts 0))
+
+pub returns-in-Advert-clause-fit : goal.returns-in-Advert-clause-fit
+returns-in-Advert-clause-fit g c = λ clock. sends_proper c.args.self.now clock (Call (call_of c.args.call.now)) (subst IsBounded c.self.view_is c.self.invariant.bounded) c.requires
 
 pub invariant_of-self-in-Gone : goal.invariant_of-self-in-Gone
 invariant_of-self-in-Gone g c =
@@ -49,6 +59,9 @@ returns-in-Quit-clause-fit g c = λ clock. sends_proper c.args.self.now clock (C
 
 pub returns-in-Send-clause-kept : goal.returns-in-Send-clause-kept
 returns-in-Send-clause-kept g c = on_err_weaker c.local_send.result (λ same. same ∙ c.self.view_is) c.local_send.ensures.kept
+
+pub returns-in-Advert-clause-kept : goal.returns-in-Advert-clause-kept
+returns-in-Advert-clause-kept g c = on_err_weaker c.local_advert.result (λ same. same ∙ c.self.view_is) c.local_advert.ensures.kept
 
 pub returns-in-Gone-clause-kept : goal.returns-in-Gone-clause-kept
 returns-in-Gone-clause-kept g c = on_err_weaker c.local_drop.result (λ same. same ∙ c.self.view_is) c.local_drop.ensures.kept

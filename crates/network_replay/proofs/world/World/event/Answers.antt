@@ -49,6 +49,9 @@ returns-in-Report-clause-only g c = λ going e. ap (takes_memory c.args.self.now
 pub returns-in-Flags-clause-only : goal.returns-in-Flags-clause-only
 returns-in-Flags-clause-only g c = λ going e. ap (takes_memory c.args.self.now.trace) c.in-Flags.is
 
+pub returns-in-Adverts-clause-only : goal.returns-in-Adverts-clause-only
+returns-in-Adverts-clause-only g c = λ going e. ap (takes_memory c.args.self.now.trace) c.in-Adverts.is
+
 pub returns-in-Reroute-clause-made : goal.returns-in-Reroute-clause-made
 returns-in-Reroute-clause-made g c = λ a read going.
     let see = g.R.Router.seen in
@@ -92,6 +95,10 @@ returns-in-Report-clause-told g c = λ a read going q w agrees.
 pub returns-in-Flags-clause-told : goal.returns-in-Flags-clause-told
 returns-in-Flags-clause-told g c = λ a read going q w agrees.
     run_no_more g.W.Watch.saw c.write_flags.result c.args.watch.now (event_sights q (event_with a c.args.event.now) w) (ap (λ e. event_sights q (event_with a e) w) c.in-Flags.is)
+
+pub returns-in-Adverts-clause-told : goal.returns-in-Adverts-clause-told
+returns-in-Adverts-clause-told g c = λ a read going q w agrees.
+    run_no_more g.W.Watch.saw c.write_adverts.result c.args.watch.now (event_sights q (event_with a c.args.event.now) w) (ap (λ e. event_sights q (event_with a e) w) c.in-Adverts.is)
 
 pub returns-in-Inject-clause-told : goal.returns-in-Inject-clause-told
 returns-in-Inject-clause-told g c = λ a read going q w agrees.

@@ -11,9 +11,9 @@ use Rattle.router_aging.proofs.Offers.{known_is}
 use Rattle.router_aging.proofs.known.KnownSenders.of.Goals as goal
 use Rattle.router_aging.proofs.known.KnownSenders.of.Goals.{After-add_paths}
 
-names : (c : After-add_paths) → c.add_paths.new.found ≡ known_names c.args.senders.now c.args.paths.now.facts c.args.session
+names : (c : After-add_paths) → c.add_paths.new.found ≡ known_names c.args.senders.now.tspecs c.args.paths.now.facts c.args.session
 names c =
-    let own : each (λ (r : LocalSender). r.sender) c.of.result.now ≡ keys (under sessions senders c.args.senders.now c.args.session) = sym (each_each tspec_row (λ e. e.0) c.of.result.now)
+    let own : each (λ (r : LocalSender). r.sender) c.of.result.now ≡ keys (under sessions senders c.args.senders.now.tspecs c.args.session) = sym (each_each tspec_row (λ e. e.0) c.of.result.now)
     ∙ ap (each (λ e. e.0)) c.of.ensures.rows in
     c.add_paths.ensures
     ∙ (λ i. with_keys ((c.add_own.ensures.senders ∙ (λ j. with_keys (c.new-found.ensures j) (own j))) i) (keys (under sessions senders c.args.paths.now.facts c.args.session)))

@@ -46,7 +46,7 @@ tell_sender-requires g c =
     let k : SenderKey = (c.args.session, c.default-sender.result) in
     let p = here_plain k n w c.self.inside.settled
     (wants_changed c.self.inside.tables c.drop_wants.new.tables c.drop_wants.ensures.rest c.args.session c.drop_wants.ensures.others c.default-sender.result c.self.inside.said)
-    (ap (λ (t : Tables). t.senders) c.drop_wants.ensures.rest) (ap (λ (t : Tables). t.paths.facts) c.drop_wants.ensures.rest) (ap (λ (t : Tables). t.due) c.drop_wants.ensures.rest)
+    (ap (λ (t : Tables). t.senders.tspecs) c.drop_wants.ensures.rest) (ap (λ (t : Tables). t.paths.facts) c.drop_wants.ensures.rest) (ap (λ (t : Tables). t.due) c.drop_wants.ensures.rest)
     (λ d. subst (λ (t : Tables). AreNamed (facts_of d (state_of t c.self.inside.said))) (sym c.drop_wants.ensures.rest) (c.self.inside.settled.named d))
     (Call (QuitAll c.args.session)) heard.Taken (λ d. ap (only_heard heard.Taken) (sym (c.drop_wants.ensures.facts d c.self.inside.said))) in (
       n,
@@ -67,7 +67,7 @@ returns-clause-facts g c = λ clock.
     let k : SenderKey = (c.args.session, c.default-sender.result) in
     let p = here_plain k n w c.self.inside.settled
     (wants_changed c.self.inside.tables c.drop_wants.new.tables c.drop_wants.ensures.rest c.args.session c.drop_wants.ensures.others c.default-sender.result c.self.inside.said)
-    (ap (λ (t : Tables). t.senders) c.drop_wants.ensures.rest) (ap (λ (t : Tables). t.paths.facts) c.drop_wants.ensures.rest) (ap (λ (t : Tables). t.due) c.drop_wants.ensures.rest)
+    (ap (λ (t : Tables). t.senders.tspecs) c.drop_wants.ensures.rest) (ap (λ (t : Tables). t.paths.facts) c.drop_wants.ensures.rest) (ap (λ (t : Tables). t.due) c.drop_wants.ensures.rest)
     (λ d. subst (λ (t : Tables). AreNamed (facts_of d (state_of t c.self.inside.said))) (sym c.drop_wants.ensures.rest) (c.self.inside.settled.named d))
     (Call (QuitAll c.args.session)) heard.Taken (λ d. ap (only_heard heard.Taken) (sym (c.drop_wants.ensures.facts d c.self.inside.said))) in
     plain_facts n c.args.self.now c.self.view_is (λ z. Call (QuitAll c.args.session)) refl heard.Taken clock k w p _
@@ -81,7 +81,7 @@ returns-clause-sent g c = λ clock.
     let k : SenderKey = (c.args.session, c.default-sender.result) in
     let p = here_plain k n w c.self.inside.settled
     (wants_changed c.self.inside.tables c.drop_wants.new.tables c.drop_wants.ensures.rest c.args.session c.drop_wants.ensures.others c.default-sender.result c.self.inside.said)
-    (ap (λ (t : Tables). t.senders) c.drop_wants.ensures.rest) (ap (λ (t : Tables). t.paths.facts) c.drop_wants.ensures.rest) (ap (λ (t : Tables). t.due) c.drop_wants.ensures.rest)
+    (ap (λ (t : Tables). t.senders.tspecs) c.drop_wants.ensures.rest) (ap (λ (t : Tables). t.paths.facts) c.drop_wants.ensures.rest) (ap (λ (t : Tables). t.due) c.drop_wants.ensures.rest)
     (λ d. subst (λ (t : Tables). AreNamed (facts_of d (state_of t c.self.inside.said))) (sym c.drop_wants.ensures.rest) (c.self.inside.settled.named d))
     (Call (QuitAll c.args.session)) heard.Taken (λ d. ap (only_heard heard.Taken) (sym (c.drop_wants.ensures.facts d c.self.inside.said))) in
     plain_sent n c.args.self.now c.self.view_is (λ z. Call (QuitAll c.args.session)) refl heard.Taken clock k w p g.O.Outbox.posted _ c.args.out.now
@@ -95,7 +95,7 @@ returns-clause-place g c =
     let k : SenderKey = (c.args.session, c.default-sender.result) in
     let p = here_plain k n w c.self.inside.settled
     (wants_changed c.self.inside.tables c.drop_wants.new.tables c.drop_wants.ensures.rest c.args.session c.drop_wants.ensures.others c.default-sender.result c.self.inside.said)
-    (ap (λ (t : Tables). t.senders) c.drop_wants.ensures.rest) (ap (λ (t : Tables). t.paths.facts) c.drop_wants.ensures.rest) (ap (λ (t : Tables). t.due) c.drop_wants.ensures.rest)
+    (ap (λ (t : Tables). t.senders.tspecs) c.drop_wants.ensures.rest) (ap (λ (t : Tables). t.paths.facts) c.drop_wants.ensures.rest) (ap (λ (t : Tables). t.due) c.drop_wants.ensures.rest)
     (λ d. subst (λ (t : Tables). AreNamed (facts_of d (state_of t c.self.inside.said))) (sym c.drop_wants.ensures.rest) (c.self.inside.settled.named d))
     (Call (QuitAll c.args.session)) heard.Taken (λ d. ap (only_heard heard.Taken) (sym (c.drop_wants.ensures.facts d c.self.inside.said))) in
     wants_place c.drop_wants.new.tables c.tell_sender.new.tables c.tell_sender.ensures.rest c.self.inside.said c.tell_sender.new.said ∙ sym p.ruled.change.place
@@ -112,7 +112,7 @@ invariant_of-self-inside-2 g c =
     let k : SenderKey = (c.args.session, c.default-sender.result) in
     let p = here_plain k n w c.self.inside.settled
     (wants_changed c.self.inside.tables c.drop_wants.new.tables c.drop_wants.ensures.rest c.args.session c.drop_wants.ensures.others c.default-sender.result c.self.inside.said)
-    (ap (λ (t : Tables). t.senders) c.drop_wants.ensures.rest) (ap (λ (t : Tables). t.paths.facts) c.drop_wants.ensures.rest) (ap (λ (t : Tables). t.due) c.drop_wants.ensures.rest)
+    (ap (λ (t : Tables). t.senders.tspecs) c.drop_wants.ensures.rest) (ap (λ (t : Tables). t.paths.facts) c.drop_wants.ensures.rest) (ap (λ (t : Tables). t.due) c.drop_wants.ensures.rest)
     (λ d. subst (λ (t : Tables). AreNamed (facts_of d (state_of t c.self.inside.said))) (sym c.drop_wants.ensures.rest) (c.self.inside.settled.named d))
     (Call (QuitAll c.args.session)) heard.Taken (λ d. ap (only_heard heard.Taken) (sym (c.drop_wants.ensures.facts d c.self.inside.said))) in
     let mid = c.drop_wants.new.tables in

@@ -47,7 +47,7 @@ tell_sender-requires g c =
     let k : SenderKey = (c.args.session, c.default-sender.result) in
     let p = here_plain k n w c.self.inside.settled
     (wants_changed c.self.inside.tables c.put_wants.new.tables c.put_wants.ensures.rest c.args.session c.put_wants.ensures.others c.default-sender.result c.self.inside.said)
-    (ap (λ (t : Tables). t.senders) c.put_wants.ensures.rest) (ap (λ (t : Tables). t.paths.facts) c.put_wants.ensures.rest) (ap (λ (t : Tables). t.due) c.put_wants.ensures.rest)
+    (ap (λ (t : Tables). t.senders.tspecs) c.put_wants.ensures.rest) (ap (λ (t : Tables). t.paths.facts) c.put_wants.ensures.rest) (ap (λ (t : Tables). t.due) c.put_wants.ensures.rest)
     (λ d. subst (λ (t : Tables). AreNamed (facts_of d (state_of t c.self.inside.said))) (sym c.put_wants.ensures.rest) (c.self.inside.settled.named d))
     (Call (WantAs c.args.session c.args.style c.args.senders.now c.args.flow c.args.confirm)) heard.Taken
     (λ d. ap (only_heard heard.Taken) (sym (c.put_wants.ensures.facts d c.self.inside.said))) in (
@@ -69,7 +69,7 @@ returns-clause-facts g c = λ clock.
     let k : SenderKey = (c.args.session, c.default-sender.result) in
     let p = here_plain k n w c.self.inside.settled
     (wants_changed c.self.inside.tables c.put_wants.new.tables c.put_wants.ensures.rest c.args.session c.put_wants.ensures.others c.default-sender.result c.self.inside.said)
-    (ap (λ (t : Tables). t.senders) c.put_wants.ensures.rest) (ap (λ (t : Tables). t.paths.facts) c.put_wants.ensures.rest) (ap (λ (t : Tables). t.due) c.put_wants.ensures.rest)
+    (ap (λ (t : Tables). t.senders.tspecs) c.put_wants.ensures.rest) (ap (λ (t : Tables). t.paths.facts) c.put_wants.ensures.rest) (ap (λ (t : Tables). t.due) c.put_wants.ensures.rest)
     (λ d. subst (λ (t : Tables). AreNamed (facts_of d (state_of t c.self.inside.said))) (sym c.put_wants.ensures.rest) (c.self.inside.settled.named d))
     (Call (WantAs c.args.session c.args.style c.args.senders.now c.args.flow c.args.confirm)) heard.Taken
     (λ d. ap (only_heard heard.Taken) (sym (c.put_wants.ensures.facts d c.self.inside.said))) in
@@ -84,7 +84,7 @@ returns-clause-sent g c = λ clock.
     let k : SenderKey = (c.args.session, c.default-sender.result) in
     let p = here_plain k n w c.self.inside.settled
     (wants_changed c.self.inside.tables c.put_wants.new.tables c.put_wants.ensures.rest c.args.session c.put_wants.ensures.others c.default-sender.result c.self.inside.said)
-    (ap (λ (t : Tables). t.senders) c.put_wants.ensures.rest) (ap (λ (t : Tables). t.paths.facts) c.put_wants.ensures.rest) (ap (λ (t : Tables). t.due) c.put_wants.ensures.rest)
+    (ap (λ (t : Tables). t.senders.tspecs) c.put_wants.ensures.rest) (ap (λ (t : Tables). t.paths.facts) c.put_wants.ensures.rest) (ap (λ (t : Tables). t.due) c.put_wants.ensures.rest)
     (λ d. subst (λ (t : Tables). AreNamed (facts_of d (state_of t c.self.inside.said))) (sym c.put_wants.ensures.rest) (c.self.inside.settled.named d))
     (Call (WantAs c.args.session c.args.style c.args.senders.now c.args.flow c.args.confirm)) heard.Taken
     (λ d. ap (only_heard heard.Taken) (sym (c.put_wants.ensures.facts d c.self.inside.said))) in
@@ -100,7 +100,7 @@ returns-clause-place g c =
     let k : SenderKey = (c.args.session, c.default-sender.result) in
     let p = here_plain k n w c.self.inside.settled
     (wants_changed c.self.inside.tables c.put_wants.new.tables c.put_wants.ensures.rest c.args.session c.put_wants.ensures.others c.default-sender.result c.self.inside.said)
-    (ap (λ (t : Tables). t.senders) c.put_wants.ensures.rest) (ap (λ (t : Tables). t.paths.facts) c.put_wants.ensures.rest) (ap (λ (t : Tables). t.due) c.put_wants.ensures.rest)
+    (ap (λ (t : Tables). t.senders.tspecs) c.put_wants.ensures.rest) (ap (λ (t : Tables). t.paths.facts) c.put_wants.ensures.rest) (ap (λ (t : Tables). t.due) c.put_wants.ensures.rest)
     (λ d. subst (λ (t : Tables). AreNamed (facts_of d (state_of t c.self.inside.said))) (sym c.put_wants.ensures.rest) (c.self.inside.settled.named d))
     (Call (WantAs c.args.session c.args.style c.args.senders.now c.args.flow c.args.confirm)) heard.Taken
     (λ d. ap (only_heard heard.Taken) (sym (c.put_wants.ensures.facts d c.self.inside.said))) in
@@ -118,7 +118,7 @@ invariant_of-self-inside-2 g c =
     let k : SenderKey = (c.args.session, c.default-sender.result) in
     let p = here_plain k n w c.self.inside.settled
     (wants_changed c.self.inside.tables c.put_wants.new.tables c.put_wants.ensures.rest c.args.session c.put_wants.ensures.others c.default-sender.result c.self.inside.said)
-    (ap (λ (t : Tables). t.senders) c.put_wants.ensures.rest) (ap (λ (t : Tables). t.paths.facts) c.put_wants.ensures.rest) (ap (λ (t : Tables). t.due) c.put_wants.ensures.rest)
+    (ap (λ (t : Tables). t.senders.tspecs) c.put_wants.ensures.rest) (ap (λ (t : Tables). t.paths.facts) c.put_wants.ensures.rest) (ap (λ (t : Tables). t.due) c.put_wants.ensures.rest)
     (λ d. subst (λ (t : Tables). AreNamed (facts_of d (state_of t c.self.inside.said))) (sym c.put_wants.ensures.rest) (c.self.inside.settled.named d))
     (Call (WantAs c.args.session c.args.style c.args.senders.now c.args.flow c.args.confirm)) heard.Taken
     (λ d. ap (only_heard heard.Taken) (sym (c.put_wants.ensures.facts d c.self.inside.said))) in

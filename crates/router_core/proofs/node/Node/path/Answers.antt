@@ -1,7 +1,7 @@
 use Rattle.std.proofs.Common.{ℕ, is_some, sym, ap, subst, ◌∙◌, refl}
 use Rattle.std.specs.Option.{option_map}
 use Rattle.path_state.specs.declared.fact.PathFact.{PathFact}
-use Rattle.rsvp_base.specs.Table.{empty, get}
+use Rattle.rsvp_base.specs.Table.{empty, get, has}
 use Rattle.rsvp_messages.specs.declared.message.Message.TheVariants as message
 use Rattle.router_rules.specs.Facts.{SenderKey}
 use Rattle.router_rules.specs.Inputs.{Spelt}
@@ -17,7 +17,7 @@ use Rattle.router_arrivals.proofs.Before.{is_before, settled_with}
 use Rattle.router_arrivals.proofs.Doing.{path_comes}
 use Rattle.router_arrivals.proofs.Pathing.{is_full}
 use Rattle.router_arrivals.proofs.Ruled.{heard_is, plain_facts, plain_sent, refused_facts, refused_sent}
-use Rattle.path_sends.specs.Renewing.{AreNews, offer_by}
+use Rattle.path_sends.specs.Renewing.{AreNews, offer_by, own_of}
 use Rattle.router_core.proofs.Told.{not_tried, still_of_place, still_sound, tried, wants_of_place, wants_place, wants_settled, wants_sound}
 use Rattle.router_core.proofs.node.Node.path.Goals as goal
 
@@ -43,7 +43,7 @@ pub renew_path-requires-clause-news : goal.renew_path-requires-clause-news
 renew_path-requires-clause-news g c = λ was is.
     let m = c.args.message.now in
     let k : SenderKey = (m.session, c.in-Ok.named.0) in
-    subst (λ (z : State). AreNews c.in-Some.renewal (offer_by (get z.senders k) was.tspec was.adspec) (offer_by (get z.senders k) c.in-Ok.named.1 m.adspec)) c.self.view_is
+    subst (λ (z : State). AreNews c.in-Some.renewal (offer_by (own_of (has z.advertised k) (get z.senders k)) was.tspec was.adspec) (offer_by (own_of (has z.advertised k) (get z.senders k)) c.in-Ok.named.1 m.adspec)) c.self.view_is
     (c.in-Some.ensures.news was (ap (λ (z : State). option_map (λ (e : PathFact × ℕ). e.0) (get z.paths k)) c.self.view_is ∙ is))
 
 pub renew_path-requires-clause-stands : goal.renew_path-requires-clause-stands

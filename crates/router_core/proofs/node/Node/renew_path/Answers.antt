@@ -1,7 +1,7 @@
 use Rattle.std.proofs.Common.{◌≡◌, ℕ, true, Some, fold, sym, ap, subst, ◌∙◌, refl}
 use Rattle.std.specs.Option.{option_map}
 use Rattle.path_state.specs.declared.fact.PathFact.{PathFact}
-use Rattle.rsvp_base.specs.Table.{empty, get}
+use Rattle.rsvp_base.specs.Table.{empty, get, has}
 use Rattle.rsvp_messages.specs.declared.message.Message.TheVariants as message
 use Rattle.router_rules.specs.Facts.{SenderKey}
 use Rattle.router_rules.specs.Inputs.{Spelt}
@@ -18,7 +18,7 @@ use Rattle.router_arrivals.proofs.Before.{settled_with}
 use Rattle.router_arrivals.proofs.Doing.{path_comes}
 use Rattle.router_arrivals.proofs.Offering.{came_there}
 use Rattle.router_arrivals.proofs.Ruled.{heard_is, plain_facts, plain_sent}
-use Rattle.path_sends.specs.Renewing.{AreNews, offer_by}
+use Rattle.path_sends.specs.Renewing.{AreNews, offer_by, own_of}
 use Rattle.router_core.proofs.Again.{marks_again, renewal_told, sent_again, settled_again}
 use Rattle.router_core.proofs.Told.{paths_only, still_of_place, still_sound}
 use Rattle.router_core.proofs.node.Node.renew_path.Goals as goal
@@ -74,7 +74,7 @@ returns-clause-sent g c = λ clock.
     let posted = g.O.Outbox.posted in
     let place = sym p.ruled.change.place in
     let news = renewal_told n w k fact left c.self.inside.said now by c.args.renewal.now (λ f is.
-    subst (λ (z : State). AreNews c.args.renewal.now (offer_by (get z.senders k) f.tspec f.adspec) (offer_by (get z.senders k) c.args.tspec m.adspec)) (sym c.self.view_is)
+    subst (λ (z : State). AreNews c.args.renewal.now (offer_by (own_of (has z.advertised k) (get z.senders k)) f.tspec f.adspec) (offer_by (own_of (has z.advertised k) (get z.senders k)) c.args.tspec m.adspec)) (sym c.self.view_is)
     (c.requires.news f (sym (ap (λ (z : State). option_map (λ (e : PathFact × ℕ). e.0) (get z.paths k)) c.self.view_is) ∙ is))) clock in
     plain_sent n c.args.self.now c.self.view_is (λ z. path_came c.args.iface m) refl heard.Taken clock k w p posted _ c.args.out.now
     (c.tell_renewal.ensures news.0 news.1 news.2 ∙ (λ i. fold posted c.args.out.now (told_new (place i) k (news.3 i) (news.4 i)))

@@ -35,7 +35,7 @@ invariant_of-self-inside g c =
     let n = state_of c.self.inside.tables c.self.inside.said in
     let w = state_of c.take_resvs.new.tables c.self.inside.said in
     let k : SenderKey = (c.args.message.now.session, any_sender) in
-    let r = here_ruled k n w c.self.inside.settled (c.take_resvs.ensures.change c.self.inside.said any_sender) (ap (λ (t : Tables). t.senders) c.take_resvs.ensures.rest)
+    let r = here_ruled k n w c.self.inside.settled (c.take_resvs.ensures.change c.self.inside.said any_sender) (ap (λ (t : Tables). t.senders.tspecs) c.take_resvs.ensures.rest)
     (ap (λ (t : Tables). t.paths.facts) c.take_resvs.ensures.rest) (ap (λ (t : Tables). t.due) c.take_resvs.ensures.rest)
     (λ d. subst AreNamed (sym (c.take_resvs.ensures.facts d c.self.inside.said)) (take_named n.place d c.args.iface c.args.message.now (facts_of d n) (c.self.inside.settled.named d)))
     (to_node n.place c.args.iface (message.Resv c.args.message.now)) (λ d. c.take_resvs.ensures.facts d c.self.inside.said
@@ -57,7 +57,7 @@ returns-then-not-news-clause-facts g c = λ clock.
     let n = state_of c.self.inside.tables c.self.inside.said in
     let w = state_of c.take_resvs.new.tables c.self.inside.said in
     let k : SenderKey = (c.args.message.now.session, any_sender) in
-    let r = here_ruled k n w c.self.inside.settled (c.take_resvs.ensures.change c.self.inside.said any_sender) (ap (λ (t : Tables). t.senders) c.take_resvs.ensures.rest)
+    let r = here_ruled k n w c.self.inside.settled (c.take_resvs.ensures.change c.self.inside.said any_sender) (ap (λ (t : Tables). t.senders.tspecs) c.take_resvs.ensures.rest)
     (ap (λ (t : Tables). t.paths.facts) c.take_resvs.ensures.rest) (ap (λ (t : Tables). t.due) c.take_resvs.ensures.rest)
     (λ d. subst AreNamed (sym (c.take_resvs.ensures.facts d c.self.inside.said)) (take_named n.place d c.args.iface c.args.message.now (facts_of d n) (c.self.inside.settled.named d)))
     (to_node n.place c.args.iface (message.Resv c.args.message.now)) (λ d. c.take_resvs.ensures.facts d c.self.inside.said
@@ -81,7 +81,7 @@ returns-then-not-news-clause-sent g c = λ clock.
     let n = state_of c.self.inside.tables c.self.inside.said in
     let w = state_of c.take_resvs.new.tables c.self.inside.said in
     let k : SenderKey = (c.args.message.now.session, any_sender) in
-    let r = here_ruled k n w c.self.inside.settled (c.take_resvs.ensures.change c.self.inside.said any_sender) (ap (λ (t : Tables). t.senders) c.take_resvs.ensures.rest)
+    let r = here_ruled k n w c.self.inside.settled (c.take_resvs.ensures.change c.self.inside.said any_sender) (ap (λ (t : Tables). t.senders.tspecs) c.take_resvs.ensures.rest)
     (ap (λ (t : Tables). t.paths.facts) c.take_resvs.ensures.rest) (ap (λ (t : Tables). t.due) c.take_resvs.ensures.rest)
     (λ d. subst AreNamed (sym (c.take_resvs.ensures.facts d c.self.inside.said)) (take_named n.place d c.args.iface c.args.message.now (facts_of d n) (c.self.inside.settled.named d)))
     (to_node n.place c.args.iface (message.Resv c.args.message.now)) (λ d. c.take_resvs.ensures.facts d c.self.inside.said
@@ -106,7 +106,7 @@ tell_resv-requires g c =
     let n = state_of c.self.inside.tables c.self.inside.said in
     let w = state_of c.take_resvs.new.tables c.self.inside.said in
     let k : SenderKey = (c.args.message.now.session, c.default-sender.result) in
-    let r = here_ruled k n w c.self.inside.settled (c.take_resvs.ensures.change c.self.inside.said c.default-sender.result) (ap (λ (t : Tables). t.senders) c.take_resvs.ensures.rest)
+    let r = here_ruled k n w c.self.inside.settled (c.take_resvs.ensures.change c.self.inside.said c.default-sender.result) (ap (λ (t : Tables). t.senders.tspecs) c.take_resvs.ensures.rest)
     (ap (λ (t : Tables). t.paths.facts) c.take_resvs.ensures.rest) (ap (λ (t : Tables). t.due) c.take_resvs.ensures.rest)
     (λ d. subst AreNamed (sym (c.take_resvs.ensures.facts d c.self.inside.said)) (take_named n.place d c.args.iface c.args.message.now (facts_of d n) (c.self.inside.settled.named d)))
     (to_node n.place c.args.iface (message.Resv c.args.message.now)) (λ d. c.take_resvs.ensures.facts d c.self.inside.said
@@ -120,7 +120,7 @@ returns-clause-facts g c = λ clock.
     let n = state_of c.self.inside.tables c.self.inside.said in
     let w = state_of c.take_resvs.new.tables c.self.inside.said in
     let k : SenderKey = (c.args.message.now.session, c.default-sender.result) in
-    let r = here_ruled k n w c.self.inside.settled (c.take_resvs.ensures.change c.self.inside.said c.default-sender.result) (ap (λ (t : Tables). t.senders) c.take_resvs.ensures.rest)
+    let r = here_ruled k n w c.self.inside.settled (c.take_resvs.ensures.change c.self.inside.said c.default-sender.result) (ap (λ (t : Tables). t.senders.tspecs) c.take_resvs.ensures.rest)
     (ap (λ (t : Tables). t.paths.facts) c.take_resvs.ensures.rest) (ap (λ (t : Tables). t.due) c.take_resvs.ensures.rest)
     (λ d. subst AreNamed (sym (c.take_resvs.ensures.facts d c.self.inside.said)) (take_named n.place d c.args.iface c.args.message.now (facts_of d n) (c.self.inside.settled.named d)))
     (to_node n.place c.args.iface (message.Resv c.args.message.now)) (λ d. c.take_resvs.ensures.facts d c.self.inside.said
@@ -144,7 +144,7 @@ returns-clause-sent g c = λ clock.
     let n = state_of c.self.inside.tables c.self.inside.said in
     let w = state_of c.take_resvs.new.tables c.self.inside.said in
     let k : SenderKey = (c.args.message.now.session, c.default-sender.result) in
-    let r = here_ruled k n w c.self.inside.settled (c.take_resvs.ensures.change c.self.inside.said c.default-sender.result) (ap (λ (t : Tables). t.senders) c.take_resvs.ensures.rest)
+    let r = here_ruled k n w c.self.inside.settled (c.take_resvs.ensures.change c.self.inside.said c.default-sender.result) (ap (λ (t : Tables). t.senders.tspecs) c.take_resvs.ensures.rest)
     (ap (λ (t : Tables). t.paths.facts) c.take_resvs.ensures.rest) (ap (λ (t : Tables). t.due) c.take_resvs.ensures.rest)
     (λ d. subst AreNamed (sym (c.take_resvs.ensures.facts d c.self.inside.said)) (take_named n.place d c.args.iface c.args.message.now (facts_of d n) (c.self.inside.settled.named d)))
     (to_node n.place c.args.iface (message.Resv c.args.message.now)) (λ d. c.take_resvs.ensures.facts d c.self.inside.said
@@ -160,7 +160,7 @@ returns-clause-place g c =
     let n = state_of c.self.inside.tables c.self.inside.said in
     let w = state_of c.take_resvs.new.tables c.self.inside.said in
     let k : SenderKey = (c.args.message.now.session, c.default-sender.result) in
-    let r = here_ruled k n w c.self.inside.settled (c.take_resvs.ensures.change c.self.inside.said c.default-sender.result) (ap (λ (t : Tables). t.senders) c.take_resvs.ensures.rest)
+    let r = here_ruled k n w c.self.inside.settled (c.take_resvs.ensures.change c.self.inside.said c.default-sender.result) (ap (λ (t : Tables). t.senders.tspecs) c.take_resvs.ensures.rest)
     (ap (λ (t : Tables). t.paths.facts) c.take_resvs.ensures.rest) (ap (λ (t : Tables). t.due) c.take_resvs.ensures.rest)
     (λ d. subst AreNamed (sym (c.take_resvs.ensures.facts d c.self.inside.said)) (take_named n.place d c.args.iface c.args.message.now (facts_of d n) (c.self.inside.settled.named d)))
     (to_node n.place c.args.iface (message.Resv c.args.message.now)) (λ d. c.take_resvs.ensures.facts d c.self.inside.said
@@ -172,7 +172,7 @@ invariant_of-self-inside-2 g c =
     let n = state_of c.self.inside.tables c.self.inside.said in
     let w = state_of c.take_resvs.new.tables c.self.inside.said in
     let k : SenderKey = (c.args.message.now.session, c.default-sender.result) in
-    let r = here_ruled k n w c.self.inside.settled (c.take_resvs.ensures.change c.self.inside.said c.default-sender.result) (ap (λ (t : Tables). t.senders) c.take_resvs.ensures.rest)
+    let r = here_ruled k n w c.self.inside.settled (c.take_resvs.ensures.change c.self.inside.said c.default-sender.result) (ap (λ (t : Tables). t.senders.tspecs) c.take_resvs.ensures.rest)
     (ap (λ (t : Tables). t.paths.facts) c.take_resvs.ensures.rest) (ap (λ (t : Tables). t.due) c.take_resvs.ensures.rest)
     (λ d. subst AreNamed (sym (c.take_resvs.ensures.facts d c.self.inside.said)) (take_named n.place d c.args.iface c.args.message.now (facts_of d n) (c.self.inside.settled.named d)))
     (to_node n.place c.args.iface (message.Resv c.args.message.now)) (λ d. c.take_resvs.ensures.facts d c.self.inside.said

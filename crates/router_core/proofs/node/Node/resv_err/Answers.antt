@@ -27,7 +27,7 @@ tell_resv_err-requires g c =
     let n = state_of c.self.inside.tables c.self.inside.said in
     let w = state_of c.block-heard.new.tables c.self.inside.said in
     let k : SenderKey = (c.args.message.now.session, c.default-sender.result) in
-    let r = here_ruled k n w c.self.inside.settled (c.block-heard.ensures.change c.self.inside.said c.default-sender.result) (ap (λ (t : Tables). t.senders) c.block-heard.ensures.rest)
+    let r = here_ruled k n w c.self.inside.settled (c.block-heard.ensures.change c.self.inside.said c.default-sender.result) (ap (λ (t : Tables). t.senders.tspecs) c.block-heard.ensures.rest)
     (ap (λ (t : Tables). t.paths.facts) c.block-heard.ensures.rest) (ap (λ (t : Tables). t.due) c.block-heard.ensures.rest)
     (λ d. subst (λ (t : Tables). AreNamed (facts_of d (state_of t c.self.inside.said))) (sym c.block-heard.ensures.rest) (c.self.inside.settled.named d))
     (to_node n.place c.args.iface (message.ResvErr c.args.message.now)) (λ d. err_facts d n c.args.iface c.args.message.now (facts_of d w)
@@ -42,7 +42,7 @@ returns-clause-facts g c = λ clock.
     let n = state_of c.self.inside.tables c.self.inside.said in
     let w = state_of c.block-heard.new.tables c.self.inside.said in
     let k : SenderKey = (c.args.message.now.session, c.default-sender.result) in
-    let r = here_ruled k n w c.self.inside.settled (c.block-heard.ensures.change c.self.inside.said c.default-sender.result) (ap (λ (t : Tables). t.senders) c.block-heard.ensures.rest)
+    let r = here_ruled k n w c.self.inside.settled (c.block-heard.ensures.change c.self.inside.said c.default-sender.result) (ap (λ (t : Tables). t.senders.tspecs) c.block-heard.ensures.rest)
     (ap (λ (t : Tables). t.paths.facts) c.block-heard.ensures.rest) (ap (λ (t : Tables). t.due) c.block-heard.ensures.rest)
     (λ d. subst (λ (t : Tables). AreNamed (facts_of d (state_of t c.self.inside.said))) (sym c.block-heard.ensures.rest) (c.self.inside.settled.named d))
     (to_node n.place c.args.iface (message.ResvErr c.args.message.now)) (λ d. err_facts d n c.args.iface c.args.message.now (facts_of d w)
@@ -64,7 +64,7 @@ returns-clause-sent g c = λ clock.
     let n = state_of c.self.inside.tables c.self.inside.said in
     let w = state_of c.block-heard.new.tables c.self.inside.said in
     let k : SenderKey = (c.args.message.now.session, c.default-sender.result) in
-    let r = here_ruled k n w c.self.inside.settled (c.block-heard.ensures.change c.self.inside.said c.default-sender.result) (ap (λ (t : Tables). t.senders) c.block-heard.ensures.rest)
+    let r = here_ruled k n w c.self.inside.settled (c.block-heard.ensures.change c.self.inside.said c.default-sender.result) (ap (λ (t : Tables). t.senders.tspecs) c.block-heard.ensures.rest)
     (ap (λ (t : Tables). t.paths.facts) c.block-heard.ensures.rest) (ap (λ (t : Tables). t.due) c.block-heard.ensures.rest)
     (λ d. subst (λ (t : Tables). AreNamed (facts_of d (state_of t c.self.inside.said))) (sym c.block-heard.ensures.rest) (c.self.inside.settled.named d))
     (to_node n.place c.args.iface (message.ResvErr c.args.message.now)) (λ d. err_facts d n c.args.iface c.args.message.now (facts_of d w)
@@ -80,7 +80,7 @@ returns-clause-place g c =
     let n = state_of c.self.inside.tables c.self.inside.said in
     let w = state_of c.block-heard.new.tables c.self.inside.said in
     let k : SenderKey = (c.args.message.now.session, c.default-sender.result) in
-    let r = here_ruled k n w c.self.inside.settled (c.block-heard.ensures.change c.self.inside.said c.default-sender.result) (ap (λ (t : Tables). t.senders) c.block-heard.ensures.rest)
+    let r = here_ruled k n w c.self.inside.settled (c.block-heard.ensures.change c.self.inside.said c.default-sender.result) (ap (λ (t : Tables). t.senders.tspecs) c.block-heard.ensures.rest)
     (ap (λ (t : Tables). t.paths.facts) c.block-heard.ensures.rest) (ap (λ (t : Tables). t.due) c.block-heard.ensures.rest)
     (λ d. subst (λ (t : Tables). AreNamed (facts_of d (state_of t c.self.inside.said))) (sym c.block-heard.ensures.rest) (c.self.inside.settled.named d))
     (to_node n.place c.args.iface (message.ResvErr c.args.message.now)) (λ d. err_facts d n c.args.iface c.args.message.now (facts_of d w)
@@ -93,7 +93,7 @@ invariant_of-self-inside g c =
     let n = state_of c.self.inside.tables c.self.inside.said in
     let w = state_of c.block-heard.new.tables c.self.inside.said in
     let k : SenderKey = (c.args.message.now.session, c.default-sender.result) in
-    let r = here_ruled k n w c.self.inside.settled (c.block-heard.ensures.change c.self.inside.said c.default-sender.result) (ap (λ (t : Tables). t.senders) c.block-heard.ensures.rest)
+    let r = here_ruled k n w c.self.inside.settled (c.block-heard.ensures.change c.self.inside.said c.default-sender.result) (ap (λ (t : Tables). t.senders.tspecs) c.block-heard.ensures.rest)
     (ap (λ (t : Tables). t.paths.facts) c.block-heard.ensures.rest) (ap (λ (t : Tables). t.due) c.block-heard.ensures.rest)
     (λ d. subst (λ (t : Tables). AreNamed (facts_of d (state_of t c.self.inside.said))) (sym c.block-heard.ensures.rest) (c.self.inside.settled.named d))
     (to_node n.place c.args.iface (message.ResvErr c.args.message.now)) (λ d. err_facts d n c.args.iface c.args.message.now (facts_of d w)

@@ -25,7 +25,7 @@ tell_sender-requires g c =
     let n = state_of c.self.inside.tables c.self.inside.said in
     let w = state_of c.tear_resvs-heard.new.tables c.self.inside.said in
     let k : SenderKey = (c.args.message.now.session, c.default-sender.result) in
-    let p = here_plain k n w c.self.inside.settled (c.tear_resvs-heard.ensures.change c.self.inside.said c.default-sender.result) (ap (λ (t : Tables). t.senders) c.tear_resvs-heard.ensures.rest)
+    let p = here_plain k n w c.self.inside.settled (c.tear_resvs-heard.ensures.change c.self.inside.said c.default-sender.result) (ap (λ (t : Tables). t.senders.tspecs) c.tear_resvs-heard.ensures.rest)
     (ap (λ (t : Tables). t.paths.facts) c.tear_resvs-heard.ensures.rest) (ap (λ (t : Tables). t.due) c.tear_resvs-heard.ensures.rest)
     (λ d. subst AreNamed (sym (c.tear_resvs-heard.ensures.facts d c.self.inside.said)) (tear_named c.args.iface c.args.message.now (facts_of d n) (c.self.inside.settled.named d)))
     (to_node n.place c.args.iface (message.ResvTear c.args.message.now)) c.tear_resvs-heard.result
@@ -41,7 +41,7 @@ returns-clause-facts g c = λ clock.
     let n = state_of c.self.inside.tables c.self.inside.said in
     let w = state_of c.tear_resvs-heard.new.tables c.self.inside.said in
     let k : SenderKey = (c.args.message.now.session, c.default-sender.result) in
-    let p = here_plain k n w c.self.inside.settled (c.tear_resvs-heard.ensures.change c.self.inside.said c.default-sender.result) (ap (λ (t : Tables). t.senders) c.tear_resvs-heard.ensures.rest)
+    let p = here_plain k n w c.self.inside.settled (c.tear_resvs-heard.ensures.change c.self.inside.said c.default-sender.result) (ap (λ (t : Tables). t.senders.tspecs) c.tear_resvs-heard.ensures.rest)
     (ap (λ (t : Tables). t.paths.facts) c.tear_resvs-heard.ensures.rest) (ap (λ (t : Tables). t.due) c.tear_resvs-heard.ensures.rest)
     (λ d. subst AreNamed (sym (c.tear_resvs-heard.ensures.facts d c.self.inside.said)) (tear_named c.args.iface c.args.message.now (facts_of d n) (c.self.inside.settled.named d)))
     (to_node n.place c.args.iface (message.ResvTear c.args.message.now)) c.tear_resvs-heard.result
@@ -56,7 +56,7 @@ returns-clause-heard g c = λ clock.
     let n = state_of c.self.inside.tables c.self.inside.said in
     let w = state_of c.tear_resvs-heard.new.tables c.self.inside.said in
     let k : SenderKey = (c.args.message.now.session, c.default-sender.result) in
-    let p = here_plain k n w c.self.inside.settled (c.tear_resvs-heard.ensures.change c.self.inside.said c.default-sender.result) (ap (λ (t : Tables). t.senders) c.tear_resvs-heard.ensures.rest)
+    let p = here_plain k n w c.self.inside.settled (c.tear_resvs-heard.ensures.change c.self.inside.said c.default-sender.result) (ap (λ (t : Tables). t.senders.tspecs) c.tear_resvs-heard.ensures.rest)
     (ap (λ (t : Tables). t.paths.facts) c.tear_resvs-heard.ensures.rest) (ap (λ (t : Tables). t.due) c.tear_resvs-heard.ensures.rest)
     (λ d. subst AreNamed (sym (c.tear_resvs-heard.ensures.facts d c.self.inside.said)) (tear_named c.args.iface c.args.message.now (facts_of d n) (c.self.inside.settled.named d)))
     (to_node n.place c.args.iface (message.ResvTear c.args.message.now)) c.tear_resvs-heard.result
@@ -70,7 +70,7 @@ returns-clause-sent g c = λ clock.
     let n = state_of c.self.inside.tables c.self.inside.said in
     let w = state_of c.tear_resvs-heard.new.tables c.self.inside.said in
     let k : SenderKey = (c.args.message.now.session, c.default-sender.result) in
-    let p = here_plain k n w c.self.inside.settled (c.tear_resvs-heard.ensures.change c.self.inside.said c.default-sender.result) (ap (λ (t : Tables). t.senders) c.tear_resvs-heard.ensures.rest)
+    let p = here_plain k n w c.self.inside.settled (c.tear_resvs-heard.ensures.change c.self.inside.said c.default-sender.result) (ap (λ (t : Tables). t.senders.tspecs) c.tear_resvs-heard.ensures.rest)
     (ap (λ (t : Tables). t.paths.facts) c.tear_resvs-heard.ensures.rest) (ap (λ (t : Tables). t.due) c.tear_resvs-heard.ensures.rest)
     (λ d. subst AreNamed (sym (c.tear_resvs-heard.ensures.facts d c.self.inside.said)) (tear_named c.args.iface c.args.message.now (facts_of d n) (c.self.inside.settled.named d)))
     (to_node n.place c.args.iface (message.ResvTear c.args.message.now)) c.tear_resvs-heard.result
@@ -85,7 +85,7 @@ returns-clause-place g c =
     let n = state_of c.self.inside.tables c.self.inside.said in
     let w = state_of c.tear_resvs-heard.new.tables c.self.inside.said in
     let k : SenderKey = (c.args.message.now.session, c.default-sender.result) in
-    let p = here_plain k n w c.self.inside.settled (c.tear_resvs-heard.ensures.change c.self.inside.said c.default-sender.result) (ap (λ (t : Tables). t.senders) c.tear_resvs-heard.ensures.rest)
+    let p = here_plain k n w c.self.inside.settled (c.tear_resvs-heard.ensures.change c.self.inside.said c.default-sender.result) (ap (λ (t : Tables). t.senders.tspecs) c.tear_resvs-heard.ensures.rest)
     (ap (λ (t : Tables). t.paths.facts) c.tear_resvs-heard.ensures.rest) (ap (λ (t : Tables). t.due) c.tear_resvs-heard.ensures.rest)
     (λ d. subst AreNamed (sym (c.tear_resvs-heard.ensures.facts d c.self.inside.said)) (tear_named c.args.iface c.args.message.now (facts_of d n) (c.self.inside.settled.named d)))
     (to_node n.place c.args.iface (message.ResvTear c.args.message.now)) c.tear_resvs-heard.result
@@ -99,7 +99,7 @@ invariant_of-self-inside g c =
     let n = state_of c.self.inside.tables c.self.inside.said in
     let w = state_of c.tear_resvs-heard.new.tables c.self.inside.said in
     let k : SenderKey = (c.args.message.now.session, c.default-sender.result) in
-    let p = here_plain k n w c.self.inside.settled (c.tear_resvs-heard.ensures.change c.self.inside.said c.default-sender.result) (ap (λ (t : Tables). t.senders) c.tear_resvs-heard.ensures.rest)
+    let p = here_plain k n w c.self.inside.settled (c.tear_resvs-heard.ensures.change c.self.inside.said c.default-sender.result) (ap (λ (t : Tables). t.senders.tspecs) c.tear_resvs-heard.ensures.rest)
     (ap (λ (t : Tables). t.paths.facts) c.tear_resvs-heard.ensures.rest) (ap (λ (t : Tables). t.due) c.tear_resvs-heard.ensures.rest)
     (λ d. subst AreNamed (sym (c.tear_resvs-heard.ensures.facts d c.self.inside.said)) (tear_named c.args.iface c.args.message.now (facts_of d n) (c.self.inside.settled.named d)))
     (to_node n.place c.args.iface (message.ResvTear c.args.message.now)) c.tear_resvs-heard.result

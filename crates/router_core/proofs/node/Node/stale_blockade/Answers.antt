@@ -51,7 +51,7 @@ returns-clause-facts c = λ clock.
     let w = state_of c.leave_wall.new.tables c.self.inside.said in
     let k : SenderKey = (c.args.session, c.default.result) in
     let ch = walls_changed c.self.inside.tables c.leave_wall.new.tables c.leave_wall.ensures.rest k.0 c.leave_wall.ensures.others k.1 c.self.inside.said in
-    said_apart clock w c.keep_said.new.said ∙ here_left k n w c.self.inside.settled ch (ap (λ (t : Tables). t.senders) c.leave_wall.ensures.rest)
+    said_apart clock w c.keep_said.new.said ∙ here_left k n w c.self.inside.settled ch (ap (λ (t : Tables). t.senders.tspecs) c.leave_wall.ensures.rest)
     (ap (λ (t : Tables). t.paths.facts) c.leave_wall.ensures.rest) (ap (λ (t : Tables). t.due) c.leave_wall.ensures.rest)
     (λ d. subst (λ (t : Tables). AreNamed (facts_of d (state_of t c.self.inside.said))) (sym c.leave_wall.ensures.rest) (c.self.inside.settled.named d)) clock
     (wall_left (c.args.session, c.args.target) clock c.args.wall c.args.left) (c.leave_wall.ensures.facts clock c.self.inside.said)
@@ -77,7 +77,7 @@ invariant_of-self-inside-2 c =
     let ch = walls_changed c.self.inside.tables c.leave_wall.new.tables c.leave_wall.ensures.rest k.0 c.leave_wall.ensures.others k.1 c.self.inside.said in (
       walls_sound c.self.inside.tables c.leave_wall.new.tables c.leave_wall.ensures.rest c.self.inside.sound,
       (
-        settled_with w c.keep_said.new.said (here_kept k n w c.self.inside.settled ch (ap (λ (t : Tables). t.senders) c.leave_wall.ensures.rest)
+        settled_with w c.keep_said.new.said (here_kept k n w c.self.inside.settled ch (ap (λ (t : Tables). t.senders.tspecs) c.leave_wall.ensures.rest)
             (ap (λ (t : Tables). t.paths.facts) c.leave_wall.ensures.rest) (ap (λ (t : Tables). t.due) c.leave_wall.ensures.rest)
             (λ d. subst (λ (t : Tables). AreNamed (facts_of d (state_of t c.self.inside.said))) (sym c.leave_wall.ensures.rest) (c.self.inside.settled.named d))),
         (c.keep_said.ensures, (subst IsOfPlace (sym c.leave_wall.ensures.rest) c.self.inside.place, tt)),

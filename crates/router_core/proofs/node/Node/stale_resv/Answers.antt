@@ -65,7 +65,7 @@ returns-clause-facts c = λ clock.
     let w = state_of c.leave_resv.new.tables c.self.inside.said in
     let k : SenderKey = (c.args.fact.session, c.default.result) in
     let ch = resvs_left_changed c.self.inside.tables c.leave_resv.new.tables c.leave_resv.ensures.rest k.0 c.leave_resv.ensures.others k.1 c.self.inside.said in
-    said_apart clock w c.keep_said.new.said ∙ here_left k n w c.self.inside.settled ch (ap (λ (t : Tables). t.senders) c.leave_resv.ensures.rest)
+    said_apart clock w c.keep_said.new.said ∙ here_left k n w c.self.inside.settled ch (ap (λ (t : Tables). t.senders.tspecs) c.leave_resv.ensures.rest)
     (ap (λ (t : Tables). t.paths.facts) c.leave_resv.ensures.rest) (ap (λ (t : Tables). t.due) c.leave_resv.ensures.rest)
     (λ d. subst AreNamed (sym (c.leave_resv.ensures.facts d c.self.inside.said)) (left_named n.place c.args.style (resv_key c.args.style c.args.fact)
     (stands d c.args.fact c.args.left) c.requires.style.named (facts_of d n) (c.self.inside.settled.named d) (c.in_ok-leave_resv.ensures.refused d c.self.inside.said))) clock
@@ -92,7 +92,7 @@ invariant_of-self-inside-2 c =
     let ch = resvs_left_changed c.self.inside.tables c.leave_resv.new.tables c.leave_resv.ensures.rest k.0 c.leave_resv.ensures.others k.1 c.self.inside.said in (
       record { pulled = c.leave_resv.ensures.pulled; booked = c.leave_resv.ensures.booked; few = omega (arith, ap length c.leave_resv.ensures.ifaces, c.self.inside.sound.few) },
       (
-        settled_with w c.keep_said.new.said (here_kept k n w c.self.inside.settled ch (ap (λ (t : Tables). t.senders) c.leave_resv.ensures.rest)
+        settled_with w c.keep_said.new.said (here_kept k n w c.self.inside.settled ch (ap (λ (t : Tables). t.senders.tspecs) c.leave_resv.ensures.rest)
             (ap (λ (t : Tables). t.paths.facts) c.leave_resv.ensures.rest) (ap (λ (t : Tables). t.due) c.leave_resv.ensures.rest)
             (λ d. subst AreNamed (sym (c.leave_resv.ensures.facts d c.self.inside.said)) (left_named n.place c.args.style (resv_key c.args.style c.args.fact)
             (stands d c.args.fact c.args.left) c.requires.style.named (facts_of d n) (c.self.inside.settled.named d) (c.in_ok-leave_resv.ensures.refused d c.self.inside.said)))),
