@@ -5,7 +5,8 @@ use Rattle.std.proofs.Math.Seq.{take-append_seam}
 use Rattle.network_model.specs.DemandTexts.{demand_text}
 use Rattle.network_model.specs.Locals.{locals_of}
 use Rattle.network_model.specs.Runs.{Plan, first_world, is_crowded_run, run_text, steps_of_run, text_of, written}
-use Rattle.network_model.specs.Steps.{Flags, Report, Step, step}
+use Rattle.network_model.specs.Steps.{Adverts, Flags, Report, Step, step}
+use Rattle.settle_adverts.specs.Demanded.{advertised_senders, demanded_adverts}
 use Rattle.settle_network.specs.DemandedFlags.{demanded_flags}
 use Rattle.script_theorem.specs.Demands.{moment}
 use Rattle.script_theorem.specs.Purged.{books_text}
@@ -53,4 +54,7 @@ fronts_have_healed_reports p roomy heals text front = record {
   flags = λ ss still ts parts settled writes fit has.
       goes_on p roomy text front (ss ++ still) Flags ts (demanded_flags p.names (moment p (ss ++ still)).net (locals_of (moment p (ss ++ still)))) parts
       (heals.flags ss still ts parts settled writes fit) has;
+  adverts = λ ss still ts parts advertised writes has.
+      goes_on p roomy text front (ss ++ still) Adverts ts (demanded_adverts p.names (moment p (ss ++ still)).net (advertised_senders (moment p (ss ++ still)))) parts
+      (heals.adverts ss still ts parts advertised writes) has;
 }

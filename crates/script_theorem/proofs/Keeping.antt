@@ -15,7 +15,8 @@ use Rattle.tree_model.specs.declared.locals.LocalSender.{LocalSender}
 use Rattle.tree_model.specs.declared.locals.LocalWant.{LocalWant}
 use Rattle.tree_model.specs.Wants.{Locals}
 use Rattle.network_model.specs.Locals.{sender_at, want_at}
-use Rattle.network_model.specs.Steps.{At, ClearAt, Copy, Deliver, Flags, Inject, Lose, Piece, Report, Reroute, Step, Trace, input_at, is_quiet, machine, ms_of, net_after, outcome, outcome_of, step}
+use Rattle.network_model.specs.Steps.{At, ClearAt, Copy, Deliver, Flags, Adverts, Inject, Lose, Piece, Report, Reroute, Step, Trace, input_at}
+use Rattle.network_model.specs.Steps.{is_quiet, machine, ms_of, net_after, outcome, outcome_of, step}
 use Rattle.network_model.specs.Worlds.{World, config_of}
 use Rattle.network_model.proofs.Quiet.{IsCame, IsWaited, at_node_found, input_found}
 use Rattle.network_model.proofs.Stepping.{facts_after_found, facts_after_made}
@@ -62,6 +63,7 @@ no_call (Copy k) u n i off e = quiet_input (Copy k) u n i refl e
 no_call (Trace on) u n i off e = quiet_input (Trace on) u n i refl e
 no_call (Report r) u n i off e = quiet_input (Report r) u n i refl e
 no_call Flags u n i off e = quiet_input Flags u n i refl e
+no_call Adverts u n i off e = quiet_input Adverts u n i refl e
 no_call (Inject t dst a) u n i off e = absurd (cc)
 
 -- a node that has what another has, but for marks

@@ -7,6 +7,7 @@ pub mod Purged
 pub mod Sessions
 pub mod Example
 pub mod FlagReports
+pub mod AdvertReports
 pub mod Safety
 pub mod Fronts
 pub mod Same

@@ -32,10 +32,10 @@ use Rattle.tree_model.specs.Valid.{IsValid}
 use Rattle.tree_model.specs.Wants.{Locals}
 use Rattle.tree_model.proofs.Following.{number_same, same_number}
 use Rattle.network_model.specs.Bounds.{AreBounds}
-use Rattle.network_model.specs.Events.{AtNode, ClearNode, CopyAt, DeliverAt, Event, Injects, LoseAt, Pass, Reports, ReportsFlags, Reroutes, Rounds, Traces, Waits, all_steps, at_place}
+use Rattle.network_model.specs.Events.{AtNode, ClearNode, CopyAt, DeliverAt, Event, Injects, LoseAt, Pass, Reports, ReportsFlags, ReportsAdverts, Reroutes, Rounds, Traces, Waits, all_steps, at_place}
 use Rattle.network_model.specs.Events.{passes, pieces, rounds, steps_of}
 use Rattle.network_model.specs.Runs.{Plan, first_facts, first_world, left_over, steps_of_run}
-use Rattle.network_model.specs.Steps.{At, ClearAt, Copy, Deliver, Flags, Inject, Lose, Piece, Report, Reroute, Step, Trace, is_calm, machine, step}
+use Rattle.network_model.specs.Steps.{At, ClearAt, Copy, Deliver, Flags, Adverts, Inject, Lose, Piece, Report, Reroute, Step, Trace, is_calm, machine, step}
 use Rattle.network_model.specs.Worlds.{World, config_of}
 use Rattle.network_model.proofs.Machines.{quiet_of}
 use Rattle.network_model.proofs.Quiet.{net_quiet}
@@ -47,7 +47,7 @@ use Rattle.script_grammar.specs.Adds.{Adds, is_sender, is_want_at, net_rerouted,
 use Rattle.script_grammar.specs.Draft.{Draft, end_number, node_number, nothing, plan_of, routing, same_session}
 use Rattle.script_grammar.specs.Grammar.{Follows, Leads}
 use Rattle.script_grammar.specs.Rules.{Keeps, KeepsAll, is_sender_at}
-use Rattle.script_grammar.specs.Values.{drop_value, hop_values, send_value, senders_value, tree_hop_value, want_value}
+use Rattle.script_grammar.specs.Values.{advert_value, drop_value, hop_values, send_value, senders_value, tree_hop_value, want_value}
 use Rattle.script_grammar.specs.declared.line.DropLine.{DropLine}
 use Rattle.script_grammar.specs.declared.line.ScriptLine.{ScriptLine}
 use Rattle.script_grammar.specs.declared.line.ScriptLine.TheVariants as line
@@ -64,7 +64,7 @@ use Rattle.laws_network.proofs.Calming.{run_append}
 use Rattle.script_theorem.specs.Standing.{world_behind}
 use Rattle.script_theorem.proofs.Calling.{call_stands}
 use Rattle.script_theorem.proofs.Keeping.{Stands, is_call, steps_keep}
-use Rattle.script_theorem.proofs.Senders.{drop_makes, owner_inside, send_makes}
+use Rattle.script_theorem.proofs.Senders.{advert_makes, drop_makes, owner_inside, send_makes}
 use Rattle.script_theorem.proofs.Wanted.{quit_makes, want_makes}
 
 -- ---- at first nodes have nothing: what is left over is no sender and no want
@@ -121,6 +121,7 @@ module _ (q : ℕ) (some : 1 ≤ q) where
   calm_no_call (Trace on) c = refl
   calm_no_call (Report e) c = refl
   calm_no_call Flags c = refl
+  calm_no_call Adverts c = refl
   calm_no_call (Inject e dst a) c = refl
   calm_no_call (Reroute g x hops) c = refl
 
@@ -149,6 +150,7 @@ module _ (q : ℕ) (some : 1 ≤ q) where
   event_goes (Traces on) u l off h = (one (Trace on) u l refl h, refl)
   event_goes (Reports e) u l off h = (one (Report e) u l refl h, refl)
   event_goes ReportsFlags u l off h = (one Flags u l refl h, refl)
+  event_goes ReportsAdverts u l off h = (one Adverts u l refl h, refl)
   event_goes (Injects e dst a) u l off h = (one (Inject e dst a) u l refl h, refl)
   event_goes (Reroutes g x hops) u l off h = (one (Reroute g x hops) u l refl h, refl)
 
@@ -272,6 +274,23 @@ module _ (d : Draft) (h : Standing d) (valid : IsValid (routing d)) (sending : S
       let makes = drop_makes d.net.ends d.locals n s x sending.placed own (plan_of d).quarter (world_behind d) stands (y.0, y.1, node, session, sender) in
       (call_stands (plan_of d).quarter (world_behind d) n (drop_value l) d.locals (without_sender d.locals s x) stands makes, is))
 
+  advertises : (l : DropLine) → KeepsAll (Keeps d (line.Advert l)) → Standing (with_local d l.node (session_value l.session) (advert_value l) d.locals)
+  advertises l rules =
+      let n = node_number d l.node in
+      let s = session_value l.session in
+      let x = sender_value l.sender in
+      let y = in_any (is_sender_at n s x) d.locals.senders rules.known.sends in
+      let a = and_both (y.0.node == n) (is_sender s x y.0) y.2 in
+      let b = and_both (same_session s y.0.session) (eq_by_cmp by_sender.cmp x y.0.sender) a.1 in
+      let node = same_number y.0.node n a.0 in
+      let session : y.0.session ≡ s = sym (tied_same by_session s y.0.session b.0) in
+      let sender : y.0.sender ≡ x = sym (tied_same by_sender x y.0.sender b.1) in
+      happened d h (AtNode n (advert_value l)) d.locals _ d.force
+      (λ bounds is stands.
+      let own = ap (λ (z : Sender). owner d.net.ends z.addr) (sym sender) ∙ sending.placed y.0 y.1 ∙ ap Some node in
+      let makes = advert_makes d.net.ends d.locals n s x sending.placed own (plan_of d).quarter (world_behind d) stands (y.0, y.1, node, session, sender) in
+      (call_stands (plan_of d).quarter (world_behind d) n (advert_value l) d.locals d.locals stands makes, is))
+
   wants : (l : WantLine) → KeepsAll (Keeps d (line.Want l)) → (new : Draft) → new ≡ with_local d l.node (session_value l.session) (want_value l)
       (record d.locals { wants = with_wants d.locals.wants (wants_value d l) }) → Sending new → CanBeAsked new → Standing new
   wants l rules new adds named can =
@@ -319,6 +338,8 @@ by_line d (line.Node name) new h valid sending after can rules adds = declared d
     (ap (λ (z : Draft). z.force) adds ∙ h.early rules.in_time.no_event ∙ sym (ap (λ (z : Draft). z.net.hops) adds))
 by_line d (line.End l) new h valid sending after can rules adds = declared d new h rules.in_time.no_event (ap (λ (z : Draft). z.events) adds) (ap (λ (z : Draft). z.locals) adds)
     (ap (λ (z : Draft). z.force) adds ∙ h.early rules.in_time.no_event ∙ sym (ap (λ (z : Draft). z.net.hops) adds))
+by_line d (line.Latency l) new h valid sending after can rules adds = declared d new h rules.in_time.no_event (ap (λ (z : Draft). z.events) adds) (ap (λ (z : Draft). z.locals) adds)
+    (ap (λ (z : Draft). z.force) adds ∙ h.early rules.in_time.no_event ∙ sym (ap (λ (z : Draft). z.net.hops) adds))
 by_line d (line.Link names) new h valid sending after can rules adds = declared d new h rules.in_time.no_event (ap (λ (z : Draft). z.events) adds) (ap (λ (z : Draft). z.locals) adds)
     (ap (λ (z : Draft). z.force) adds ∙ h.early rules.in_time.no_event ∙ sym (ap (λ (z : Draft). z.net.hops) adds))
 by_line d (line.Hop l) new h valid sending after can rules adds =
@@ -334,6 +355,7 @@ by_line d (line.StaleSenderWall l) new h valid sending after can rules adds = de
     (ap (λ (z : Draft). z.force) adds ∙ h.early rules.in_time ∙ sym (ap (λ (z : Draft). z.net.hops) adds))
 by_line d (line.Send l) new h valid sending after can rules adds = subst Standing (sym adds) (sends d h valid sending l rules (subst Sending adds after))
 by_line d (line.Drop l) new h valid sending after can rules adds = subst Standing (sym adds) (drops d h valid sending l rules)
+by_line d (line.Advert l) new h valid sending after can rules adds = subst Standing (sym adds) (advertises d h valid sending l rules)
 by_line d (line.Want l) new h valid sending after can rules adds = wants d h valid sending l rules new adds after can
 by_line d (line.Quit l) new h valid sending after can rules adds = subst Standing (sym adds) (quits d h valid sending l rules)
 by_line d (line.Wait ms) new h valid sending after can rules adds = subst Standing (sym adds) (passed d (Waits ms) d.force refl refl h)
@@ -347,6 +369,7 @@ by_line d (line.Trace on) new h valid sending after can rules adds = subst Stand
 by_line d line.Report new h valid sending after can rules adds = subst Standing (sym adds) (passed d (Reports None) d.force refl refl h)
 by_line d (line.ReportEnd end) new h valid sending after can rules adds = subst Standing (sym adds) (passed d (Reports (Some (end_number d end))) d.force refl refl h)
 by_line d line.Flags new h valid sending after can rules adds = subst Standing (sym adds) (passed d ReportsFlags d.force refl refl h)
+by_line d line.Adverts new h valid sending after can rules adds = subst Standing (sym adds) (passed d ReportsAdverts d.force refl refl h)
 by_line d (line.Inject l) new h valid sending after can rules adds =
     subst Standing (sym adds.2) (passed d (Injects (end_number d l.end) (addr_value l.dst) adds.0) d.force refl refl h)
 by_line d (line.Reroute l) new h valid sending after can rules adds =

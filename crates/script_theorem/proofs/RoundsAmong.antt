@@ -6,9 +6,9 @@ use Rattle.rsvp_base.specs.Members.{In}
 use Rattle.calm_rounds.specs.Machine.{all_arrived, all_sent, run}
 use Rattle.calm_rounds.specs.Rounds.{Calm, Rounds as CalmRounds, run_rounds}
 use Rattle.network_model.specs.Bounds.{all_of}
-use Rattle.network_model.specs.Events.{AtNode, ClearNode, CopyAt, DeliverAt, Event, Injects, LoseAt, Pass, Reports, ReportsFlags, Reroutes, Rounds, Traces, Waits, all_steps, rounds}
+use Rattle.network_model.specs.Events.{AtNode, ClearNode, CopyAt, DeliverAt, Event, Injects, LoseAt, Pass, Reports, ReportsFlags, ReportsAdverts, Reroutes, Rounds, Traces, Waits, all_steps, rounds}
 use Rattle.tree_model.specs.Networks.{Net}
-use Rattle.network_model.specs.Steps.{Flags, Report, Step, Trace, machine, serves_key, step}
+use Rattle.network_model.specs.Steps.{Flags, Adverts, Report, Step, Trace, machine, serves_key, step}
 use Rattle.network_model.specs.Worlds.{Item, World}
 use Rattle.laws_network.specs.Rounds.{rounds_of}
 use Rattle.laws_network.proofs.Calming.{rounds_is_calm}
@@ -85,6 +85,7 @@ rounds_among_writing_count q (Rounds n ∷ es) w h = after_rounds q n (all_steps
     (rounds_among_writing_count q es (run (machine q) (rounds q n w) w) h)
 rounds_among_writing_count q (Reports e ∷ es) w h = then_written q (Report e) (all_steps q es (step q (Report e) w)) w (rounds_among es) refl (rounds_among_writing_count q es (step q (Report e) w) h)
 rounds_among_writing_count q (ReportsFlags ∷ es) w h = then_written q Flags (all_steps q es (step q Flags w)) w (rounds_among es) refl (rounds_among_writing_count q es (step q Flags w) h)
+rounds_among_writing_count q (ReportsAdverts ∷ es) w h = then_written q Adverts (all_steps q es (step q Adverts w)) w (rounds_among es) refl (rounds_among_writing_count q es (step q Adverts w) h)
 rounds_among_writing_count q (Traces on ∷ es) w h = then_written q (Trace on) (all_steps q es (step q (Trace on) w)) w (rounds_among es) refl (rounds_among_writing_count q es (step q (Trace on) w) h)
 rounds_among_writing_count q (AtNode n l ∷ es) w h = absurd h
 rounds_among_writing_count q (Waits ms ∷ es) w h = absurd h

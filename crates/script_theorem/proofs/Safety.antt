@@ -9,6 +9,7 @@ use Rattle.script_grammar.specs.Draft.{plan_of}
 use Rattle.laws_scripts.proofs.EventLines.{first_lines_are_a_fit_run}
 use Rattle.laws_scripts.proofs.SenderLines.{first_lines_let_few_send}
 use Rattle.script_theorem.proofs.Demands.{a_settled_report_is_the_demand}
+use Rattle.script_theorem.proofs.AdvertReports.{a_settled_adverts_line_is_demanded}
 use Rattle.script_theorem.proofs.FlagReports.{a_settled_flags_line_is_demanded}
 use Rattle.script_theorem.proofs.Purged.{a_purged_report_is_at_most_the_demand}
 use Rattle.script_theorem.proofs.Sessions.{a_settled_report_shows_each_session}
@@ -78,5 +79,6 @@ first_lines_heal_themselves lines d leads roomy =
       purged = a_purged_report_is_at_most_the_demand (plan_of d) fit roomy;
       sessions = a_settled_report_shows_each_session (plan_of d) fit (first_lines_let_few_send lines d leads) roomy;
       flags = a_settled_flags_line_is_demanded (plan_of d) fit (first_lines_let_few_send lines d leads) roomy;
+      adverts = a_settled_adverts_line_is_demanded (plan_of d) fit (first_lines_let_few_send lines d leads) roomy;
       safe = fit_runs_are_safe (plan_of d) fit;
     }

@@ -23,7 +23,7 @@ use Rattle.rsvp_base.proofs.UnderLaws.{get-under}
 use Rattle.router_rules.specs.declared.answers.LocalErr.TheVariants as local
 use Rattle.router_rules.specs.Calls.{SendersOf, needs}
 use Rattle.router_rules.specs.Facts.{Facts, SenderKey, sender_keys}
-use Rattle.router_rules.specs.Inputs.{DropAs, SendAs}
+use Rattle.router_rules.specs.Inputs.{DropAs, AdvertAs, SendAs}
 use Rattle.router_rules.specs.NodeConfig.{is_addr, is_own}
 use Rattle.tree_model.specs.declared.hops.End.{End}
 use Rattle.tree_model.specs.declared.locals.LocalSender.{LocalSender}
@@ -190,6 +190,27 @@ module _ (ends : List End) (l : Locals) (n : ℕ) (s : Session) (x : Sender) (pl
       wanted = λ w i node.
           let r = h.want_made w (subst (λ (z : List LocalWant). In w z) (wants_same l n s x) i) in
           (r.0, r.1, r.2, ap (slice_get u.nodes) (sym node) ∙ r.3, r.4, r.5);
+    }
+
+  -- ---- a sender that is advertised: nothing else is asked for
+  module _ (q : ℕ) (u : World) (h : Stands l u) (there : (y : LocalSender) × In y l.senders × (y.node ≡ n) × (y.session ≡ s) × (y.sender ≡ x)) where
+    pub advert_makes : Makes q u n (AdvertAs s x) l l
+    advert_makes = record {
+      taken = λ f at.
+          let r = h.sender_made there.0 there.1 in
+          let same : r.0 ≡ f = of_some r.0 f (sym (ap (slice_get u.nodes) (sym there.2) ∙ r.2) ∙ at) in
+          let key : (there.0.session, there.0.sender) ≡ (s, x) = (λ i. (there.3 i, there.4 i)) in
+          let found : get f.senders (s, x) ≡ Some r.1 = ap (λ (z : Facts). get z.senders (s, x)) (sym same) ∙ ap (get r.0.senders) (sym key) ∙ r.3 in
+          let has_it : has f.senders (s, x) ≡ true = ap is_some found in
+          ap (λ (b : Bool). needs b local.Absent None) has_it;
+      senders_stay = λ y i away. i;
+      senders_were = λ y i away. i;
+      sends = λ f k v at e. h.sender_told n f k v at e;
+      sent = λ y i node. let r = h.sender_made y i in (r.0, r.1, ap (slice_get u.nodes) (sym node) ∙ r.2, r.3);
+      wants_stay = λ w i away. i;
+      wants_were = λ w i away. i;
+      wants = λ f k v at e. h.want_told n f k v at e;
+      wanted = λ w i node. let r = h.want_made w i in (r.0, r.1, r.2, ap (slice_get u.nodes) (sym node) ∙ r.3, r.4, r.5);
     }
 
   -- ---- a sender that goes

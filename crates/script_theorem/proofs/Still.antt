@@ -17,7 +17,8 @@ use Rattle.tree_model.specs.declared.hops.End.{End}
 use Rattle.tree_model.specs.Networks.{iface_of, node_of}
 use Rattle.network_model.specs.Locals.{IsLive}
 use Rattle.network_model.specs.Sound.{IsSoundAt, IsSoundPart, TakesAll}
-use Rattle.network_model.specs.Steps.{Step, Piece, Deliver, Lose, Copy, At, ClearAt, Trace, Report, Flags, Inject, Reroute, arrived, came, came_by_end, ms_of, outcome, outcome_of, step, trace_after}
+use Rattle.network_model.specs.Steps.{Step, Piece, Deliver, Lose, Copy, At, ClearAt, Trace, Report, Flags, Adverts, Inject, Reroute, arrived}
+use Rattle.network_model.specs.Steps.{came, came_by_end, ms_of, outcome, outcome_of, step, trace_after}
 use Rattle.network_model.specs.Worlds.{Item, World}
 use Rattle.settle_network.specs.Settled.{HasSettled}
 use Rattle.script_theorem.specs.Writing.{ANetworkStaysSettled}
@@ -73,6 +74,7 @@ module _ (q : ℕ) (u : World) (t : Bool) (d m : ℕ) where
   takes (Trace on) h = λ y m f x arr spelt at asked. absurd (cc)
   takes (Report e) h = λ y m f x arr spelt at asked. absurd (cc)
   takes Flags h = λ y m f x arr spelt at asked. absurd (cc)
+  takes Adverts h = λ y m f x arr spelt at asked. absurd (cc)
   takes (Inject e dst a) h = λ y m f x arr spelt at asked. absurd (cc)
   takes (Reroute g s hops) h = λ y m f x arr spelt at asked. absurd (cc)
 

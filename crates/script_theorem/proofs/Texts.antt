@@ -22,7 +22,7 @@ use Rattle.script_theorem.specs.Purged.{books_text, end_text}
 
 -- the node of an end is there
 pub facts_there : (q : ℕ) (u : World) → AreBounds q u → (e : ℕ) → e < length u.net.ends → (f : Facts) × (slice_get u.nodes (node_of u.net.ends e) ≡ Some f)
-facts_there q u bounds e lt = node_there q u bounds.net u e (record { bounds = bounds; same = record { net = refl; trees = refl; senders = λ n. refl; locals = refl } }) lt
+facts_there q u bounds e lt = node_there q u bounds.net u e (record { bounds = bounds; same = record { net = refl; trees = refl; senders = λ n. refl; advertised = λ n. refl; locals = refl } }) lt
 
 -- where the nodes keep these books for their ends
 abbrev pub HasBooks : World → (ℕ → BookTable) → Type 0

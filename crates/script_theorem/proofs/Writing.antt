@@ -7,7 +7,7 @@ use Rattle.calm_rounds.specs.Machine.{all_arrived, all_sent, items_of, run, wait
 use Rattle.calm_rounds.specs.Rounds.{AreQuiet, Calm, Rounds}
 use Rattle.tree_model.specs.Ranks.{longest}
 use Rattle.network_model.specs.Bounds.{all_of}
-use Rattle.network_model.specs.Steps.{Piece, Deliver, Lose, Copy, At, ClearAt, Trace, Report, Flags, Inject, Reroute, Step, arrived, is_calm, machine, ms_of, sent, step}
+use Rattle.network_model.specs.Steps.{Piece, Deliver, Lose, Copy, At, ClearAt, Trace, Report, Flags, Adverts, Inject, Reroute, Step, arrived, is_calm, machine, ms_of, sent, step}
 use Rattle.network_model.specs.Worlds.{Item, World}
 use Rattle.network_model.proofs.Changing.{the_rest_change_no_node}
 use Rattle.script_theorem.specs.Writing.{AMomentStaysCalm, OnlyWrite, only_writes}
@@ -50,6 +50,18 @@ idle q (Report x) u e = let r = the_rest_change_no_node q u (Report x) refl in r
   words = refl;
 }
 idle q Flags u e = let r = the_rest_change_no_node q u Flags refl in record {
+  calm = le-leb 0 (2 * q)
+      (omega arith);
+  no_time = refl;
+  none_sent = r.sends;
+  nodes = r.nodes;
+  none_arrives = refl;
+  flight = ap (λ (z : List (Item × Bool)). u.flight ++ each (λ (x : Item × Bool). x.0) z) r.sends
+      ∙ append-nil u.flight;
+  net = refl;
+  words = refl;
+}
+idle q Adverts u e = let r = the_rest_change_no_node q u Adverts refl in record {
   calm = le-leb 0 (2 * q)
       (omega arith);
   no_time = refl;

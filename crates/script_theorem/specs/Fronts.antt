@@ -5,8 +5,10 @@ use Rattle.network_model.specs.Bounds.{IsPurged, IsSettled}
 use Rattle.network_model.specs.DemandTexts.{demand_text}
 use Rattle.network_model.specs.Locals.{locals_of}
 use Rattle.network_model.specs.Runs.{Plan, first_world, is_crowded_run, run_text, steps_of_run, text_of}
-use Rattle.network_model.specs.Steps.{Flags, Report, Step}
+use Rattle.network_model.specs.Steps.{Adverts, Flags, Report, Step}
+use Rattle.settle_adverts.specs.Demanded.{advertised_senders, demanded_adverts}
 use Rattle.settle_network.specs.DemandedFlags.{demanded_flags}
+use Rattle.script_theorem.specs.AdvertReports.{IsAdvertised}
 use Rattle.script_theorem.specs.Demands.{moment}
 use Rattle.script_theorem.specs.Purged.{AppendsAtMostTheDemand, books_text}
 use Rattle.script_theorem.specs.Sessions.{AppendsTheSessions}
@@ -59,11 +61,19 @@ module _ (p : Plan) (text : List ℕ) where
       → DemandsFit (moment p (ss ++ still)).net (locals_of (moment p (ss ++ still))) → HasWhole (ss ++ still) Flags
       → GoesOnWith (ss ++ still) (demanded_flags p.names (moment p (ss ++ still)).net (locals_of (moment p (ss ++ still))))
 
+  -- what each `adverts` line wrote, if it has that whole, behind 7 H + 4 calm rounds or steps that only write after them, are the
+  -- advertisements that are demanded, whether or not the demands fit
+  abbrev pub HasTheAdverts : Type 0
+  HasTheAdverts =
+      (ss still ts : List Step) → steps_of_run p ≡ (ss ++ still) ++ Adverts ∷ ts → IsAdvertised p.quarter (first_world p) ss → OnlyWrite still → HasWhole (ss ++ still) Adverts
+      → GoesOnWith (ss ++ still) (demanded_adverts p.names (moment p (ss ++ still)).net (advertised_senders (moment p (ss ++ still))))
+
   pub record HasHealedReports : Type 0 where
     pub demands : HasTheDemands
     pub purged : HasNothingStale
     pub sessions : HasEachSession
     pub flags : HasTheFlags
+    pub adverts : HasTheAdverts
 
 -- each front of the text of a run that heals itself, and is not crowded
 abbrev pub FrontsHaveHealedReports : Type 0

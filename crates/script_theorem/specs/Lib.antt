@@ -5,6 +5,7 @@ pub mod Purged
 pub mod Sessions
 pub mod Example
 pub mod FlagReports
+pub mod AdvertReports
 pub mod Theorem
 pub mod Fronts
 pub mod Standing

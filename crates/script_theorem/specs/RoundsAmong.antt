@@ -2,17 +2,18 @@
 use Rattle.std.specs.Prelude.{◌≡◌, ℕ, ◌+◌, List, [], ◌∷◌, ◌++◌, length}
 use Rattle.calm_rounds.specs.Rounds.{Rounds as CalmRounds}
 use Rattle.network_model.specs.Bounds.{all_of}
-use Rattle.network_model.specs.Events.{Event, Reports, ReportsFlags, Rounds, Traces, all_steps}
+use Rattle.network_model.specs.Events.{Event, Reports, ReportsFlags, Rounds, Traces, all_steps, ReportsAdverts}
 use Rattle.network_model.specs.Steps.{Step, machine}
 use Rattle.network_model.specs.Worlds.{World}
 use Rattle.script_theorem.specs.Writing.{OnlyWrite}
 
--- each event is `rounds n`, or only writes: a report, a flag report or a trace switch
+-- each event is `rounds n`, or only writes: a report, of a book, of flags or of what paths offer, or a trace switch
 abbrev pub AreRoundsAndWriting : List Event → Type 0
 AreRoundsAndWriting [] = Unit {0}
 AreRoundsAndWriting (Rounds n ∷ es) = AreRoundsAndWriting es
 AreRoundsAndWriting (Reports e ∷ es) = AreRoundsAndWriting es
 AreRoundsAndWriting (ReportsFlags ∷ es) = AreRoundsAndWriting es
+AreRoundsAndWriting (ReportsAdverts ∷ es) = AreRoundsAndWriting es
 AreRoundsAndWriting (Traces on ∷ es) = AreRoundsAndWriting es
 AreRoundsAndWriting (_ ∷ es) = ⊥
 

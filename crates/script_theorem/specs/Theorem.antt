@@ -12,6 +12,7 @@ use Rattle.network_model.specs.Worlds.{World}
 use Rattle.laws_network.specs.Runs.{IsFitRun}
 use Rattle.script_grammar.specs.Draft.{Draft, nothing, plan_of}
 use Rattle.script_grammar.specs.Grammar.{Leads}
+use Rattle.script_theorem.specs.AdvertReports.{SettlesToTheAdverts}
 use Rattle.script_theorem.specs.Demands.{AppendsTheDemand, moment}
 use Rattle.script_theorem.specs.FlagReports.{SettlesToTheFlags}
 use Rattle.script_theorem.specs.Purged.{ReportsNothingStale}
@@ -95,6 +96,8 @@ pub record HealsItself (p : Plan) : Type 0 where
   pub sessions : ReportsEachSession p
   -- each `flags` line at a settled moment appends the flags that are demanded, where the demands fit
   pub flags : SettlesToTheFlags p
+  -- and each `adverts` line behind 7 H + 4 calm rounds the advertisements that are demanded, whether or not the demands fit
+  pub adverts : SettlesToTheAdverts p
   pub safe : IsSafe p
 
 -- ---- the laws

@@ -1,8 +1,8 @@
--- Steps that only write: reports, trace switches and flag reports.
+-- Steps that only write: reports, trace switches, flag reports and reports of what paths offer.
 use Rattle.std.specs.Prelude.{◌≡◌, ℕ, ◌≤◌, ◌++◌, Bool, true, false, List, [], ◌∷◌}
 use Rattle.calm_rounds.specs.Machine.{run}
 use Rattle.network_model.specs.Bounds.{EndsInCalm}
-use Rattle.network_model.specs.Steps.{Flags, Report, Step, Trace, machine}
+use Rattle.network_model.specs.Steps.{Flags, Report, Step, Trace, machine, Adverts}
 use Rattle.network_model.specs.Worlds.{World}
 use Rattle.settle_network.specs.Settled.{HasSettled}
 
@@ -10,6 +10,7 @@ abbrev pub only_writes : Step → Bool
 only_writes (Trace on) = true
 only_writes (Report e) = true
 only_writes Flags = true
+only_writes Adverts = true
 only_writes _ = false
 
 abbrev pub OnlyWrite : List Step → Type 0

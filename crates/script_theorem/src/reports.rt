@@ -1,14 +1,15 @@
 //! The laws.
+ghost use Rattle.script_theorem.specs.AdvertReports.{ASettledAdvertsLineIsDemanded};
 ghost use Rattle.script_theorem.specs.Demands.{ASettledReportIsTheDemand};
-ghost use Rattle.script_theorem.specs.Example.{TheReportBecomesTheDemand};
+ghost use Rattle.script_theorem.specs.Example.{TheAdvertsBecomeWhatIsDemanded, TheReportBecomesTheDemand};
 ghost use Rattle.script_theorem.specs.FlagReports.{SettledFlagsAreAFunction, ASettledFlagsLineIsDemanded};
 ghost use Rattle.script_theorem.specs.RoundsAmong.{RoundsAmongWritingCount};
 ghost use Rattle.script_theorem.specs.Purged.{APurgedReportIsAtMostTheDemand};
 ghost use Rattle.script_theorem.specs.Sessions.{ASettledReportShowsEachSession};
 ghost use Rattle.script_theorem.specs.Writing.{AMomentStaysCalm, ANetworkStaysSettled};
 
-/// A moment behind calm rounds, as a settled one, stays one while only reports, trace switches and flag reports follow: they take no
-/// time, send nothing and change no node, so that they count as the end of the last round.
+/// A moment behind calm rounds, as a settled one, stays one while only trace switches and reports follow, of books, of flags or of what
+/// paths offer: they take no time, send nothing and change no node, so that they count as the end of the last round.
 pub fn a_moment_stays_calm()
     ensures { AMomentStaysCalm }
 {}
@@ -60,4 +61,17 @@ pub fn a_settled_flags_line_is_demanded()
 /// So at two settled moments at which the demands fit and the same is asked of the same network, it writes the same.
 pub fn settled_flags_are_a_function()
     ensures { SettledFlagsAreAFunction }
+{}
+
+/// What an `adverts` line writes is settled sooner, and whether or not the demands fit: in the run of a fit script that lets few senders
+/// send and is not crowded, at each moment behind 7 H + 4 calm rounds, it appends by end, session and sender the advertisement of each
+/// advertised live sender whose tree comes into the node by that end (RFC 2210, 3.3), and nothing else.
+pub fn a_settled_adverts_line_is_demanded()
+    ensures { ASettledAdvertsLineIsDemanded }
+{}
+
+/// The run of a small script, computed: an `adverts` line before the rounds writes nothing, since no Path has come yet, and one behind 11
+/// rounds what is demanded.
+pub fn the_adverts_become_what_is_demanded()
+    ensures { TheAdvertsBecomeWhatIsDemanded }
 {}

@@ -24,14 +24,16 @@ pub fn first_lines_are_safe()
 /// fit, what the report appends to the text is the text of the demand, whole, with senders and flows. Whatever was left over, lost,
 /// injected or asked for before makes no difference. And behind 10 H + 9 calm rounds a report lists nothing that nobody below wants,
 /// whether or not the demands fit. And at a settled moment it lists of each session that fits exactly what is demanded of it, whatever
-/// the others ask for. A `flags` line at a settled moment, where the demands fit, appends the flags that are demanded.
+/// the others ask for. A `flags` line at a settled moment, where the demands fit, appends the flags that are demanded; and an `adverts`
+/// line behind 7 H + 4 calm rounds the advertisements that are demanded, whether or not the demands fit.
 pub fn first_lines_heal_themselves()
     ensures { FirstLinesHealThemselves }
 {}
 
 /// Where a front of the text of such a run was written, since the run or its sink ended early, each report that stands in it whole is
 /// the same: at a settled moment the demand, or that of each session that fits, and at a purged one it lists nothing stale. So is what each
-/// `flags` line wrote that stands in it whole: at a settled moment the flags that are demanded.
+/// `flags` line wrote that stands in it whole: at a settled moment the flags that are demanded; and what each `adverts` line wrote, behind
+/// 7 H + 4 calm rounds the advertisements that are demanded.
 pub fn fronts_have_healed_reports()
     ensures { FrontsHaveHealedReports }
 {}

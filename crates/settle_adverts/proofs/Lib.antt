@@ -1,4 +1,7 @@
+pub mod Ways
+pub mod Composing
 pub mod SoftAdspecs
 pub mod Sending
-pub mod DyingOut
+pub mod Settling
+pub mod Demanded
 pub mod Worked

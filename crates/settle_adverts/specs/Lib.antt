@@ -1,2 +1,4 @@
-pub mod Adspecs
+pub mod Ways
+pub mod Told
+pub mod Demanded
 pub mod Worked
