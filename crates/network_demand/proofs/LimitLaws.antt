@@ -46,19 +46,19 @@ use Rattle.network_demand.proofs.GoalLaws.{from_hops, to_hops, line_told, line_m
 use Rattle.network_demand.proofs.Inside.{end_there, ends_inside}
 
 -- ---- lists without repeats
-once_flat : {A B : Type 0} (f : A → List B) (xs : List A) → NoRepeats xs → ((x : A) → In x xs → NoRepeats (f x)) → ((x y : A) (z : B) → In x xs → In y xs → In z (f x) → In z (f y) → x ≡ y)
+pub once_flat : {A B : Type 0} (f : A → List B) (xs : List A) → NoRepeats xs → ((x : A) → In x xs → NoRepeats (f x)) → ((x y : A) (z : B) → In x xs → In y xs → In z (f x) → In z (f y) → x ≡ y)
     → NoRepeats (flat_map f xs)
 once_flat f [] once all apart = tt
 once_flat {A} f (x ∷ xs) once all apart =
     once_append (f x) (flat_map f xs) (all x (inl refl)) (once_flat f xs once.1 (λ y i. all y (inr i)) (λ a b z i j. apart a b z (inr i) (inr j)))
     (λ z i j. let r = in_flat_map f z xs j in once.0 (subst (λ (y : A). In y xs) (sym (apart x r.0 z (inl refl) (inr r.1) i r.2)) r.1))
 
-once_each : {A B : Type 0} (f : A → B) (xs : List A) → NoRepeats xs → ((x y : A) → In x xs → In y xs → f x ≡ f y → x ≡ y) → NoRepeats (each f xs)
+pub once_each : {A B : Type 0} (f : A → B) (xs : List A) → NoRepeats xs → ((x y : A) → In x xs → In y xs → f x ≡ f y → x ≡ y) → NoRepeats (each f xs)
 once_each f [] once apart = tt
 once_each {A} f (x ∷ xs) once apart =
     (λ i. let r = in_each f (f x) xs i in once.0 (subst (λ (y : A). In y xs) (sym (apart x r.0 (inl refl) (inr r.1) r.2)) r.1), once_each f xs once.1 (λ a b i j. apart a b (inr i) (inr j)))
 
-once_filter : {A : Type 0} (p : A → Bool) (xs : List A) → NoRepeats xs → NoRepeats (filter p xs)
+pub once_filter : {A : Type 0} (p : A → Bool) (xs : List A) → NoRepeats xs → NoRepeats (filter p xs)
 once_filter p [] once = tt
 once_filter {A} p (x ∷ xs) once = by (p x) (once_filter p xs once.1)
   where
@@ -94,14 +94,14 @@ module _ {K : Type 0} (o : Keys K) where
       apart : (q : K) → In q ks → eq_by_cmp o.cmp q k ≡ false
       apart q i = either (eq_by_cmp o.cmp q k) (λ t. absurd (once.0 (subst (λ (x : K). In x ks) (tied_same o q k t) i))) (λ f. f)
 
-  size_once : (ks : List K) → NoRepeats ks → size (set_of {o = o} ks) ≡ length ks
+  pub size_once : (ks : List K) → NoRepeats ks → size (set_of {o = o} ks) ≡ length ks
   size_once ks once = let z = with_once ks empty once (λ k i. refl) in omega (arith, z)
 
-length_flat : {A B : Type 0} (f : A → List B) (xs : List A) → length (flat_map f xs) ≡ sum_by (λ x. length (f x)) xs
+pub length_flat : {A B : Type 0} (f : A → List B) (xs : List A) → length (flat_map f xs) ≡ sum_by (λ x. length (f x)) xs
 length_flat f [] = refl
 length_flat f (x ∷ xs) = let a = length-append (f x) (flat_map f xs) in let b = length_flat f xs in let c = sum_by-cons (λ x. length (f x)) x xs in omega (arith, a, b, c)
 
-sum_same : {A : Type 0} (f g : A → ℕ) (xs : List A) → ((x : A) → f x ≡ g x) → sum_by f xs ≡ sum_by g xs
+pub sum_same : {A : Type 0} (f g : A → ℕ) (xs : List A) → ((x : A) → f x ≡ g x) → sum_by f xs ≡ sum_by g xs
 sum_same f g [] same = refl
 sum_same f g (x ∷ xs) same = let a = same x in let b = sum_same f g xs same in let c = sum_by-cons f x xs in let d = sum_by-cons g x xs in omega (arith, a, b, c, d)
 

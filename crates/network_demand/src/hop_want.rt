@@ -4,7 +4,9 @@ use tree_model::LinkHop;
 
 /// What is wanted over a hop, of a session and style.
 #[derive(Drop)]
-pub(crate) struct HopWant {
-    pub(crate) hop: LinkHop,
-    pub(crate) parts: Parts,
+pub struct HopWant {
+    /// The hop.
+    pub hop: LinkHop,
+    /// What is wanted, unit by unit.
+    pub parts: Parts,
 }

@@ -101,7 +101,7 @@ fn next_want<S: Style>(
 
 /// The wants of a session and style over each hop of its group, in this order of all hops by rank. `NoMemory`: there was no
 /// room for them.
-pub(crate) fn hop_wants<S: Style>(
+pub fn hop_wants<S: Style>(
     alloc: Global,
     routing: &Routing,
     order: &[GroupHop],

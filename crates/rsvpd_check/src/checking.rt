@@ -15,7 +15,7 @@ use std::alloc::Global;
 #[derive(Drop)]
 pub(crate) struct Outcome {
     pub(crate) status: Status,
-    /// Whether there was something to say.
+    /// Whether anything was said but that no later round is crowded.
     pub(crate) said: bool,
 }
 

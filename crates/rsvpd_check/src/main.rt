@@ -1,7 +1,8 @@
 //! `rsvpd_check [--strict]`: says what in a script will not do what its writer meant. The launcher runs it as `rsvpd check`.
 //!
 //! Its promises are the clauses of `check`, which `main` calls with standard input and standard output: a misfit is said if and only if
-//! the demand of the script ends in `fits no`. It ends as `demand` does, and with `--strict` in status 10 where it said something.
+//! the demand of the script ends in `fits no`, and else how much is in flight once all has settled: the refresh overhead. It ends as
+//! `demand` does, and with `--strict` in status 10 where it said anything but that no later round is crowded.
 #![tactic(auto)]
 
 mod checking;

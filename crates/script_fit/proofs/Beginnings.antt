@@ -1,7 +1,7 @@
 -- How the text of findings begins, and how that of a demand ends.
 use Rattle.std.specs.Prelude.{◌≡◌, ◌⊎◌, ℕ, List, [], ◌∷◌, ◌++◌, length, codes, drop, refl}
 use Rattle.std.specs.List.{flat_map}
-use Rattle.std.proofs.Common.{suc, sym, ap, ◌∙◌, inl, inr, ⊎_elim, append_assoc, get_or, length-append, arith}
+use Rattle.std.proofs.Common.{suc, sym, ap, subst, ◌∙◌, inl, inr, ⊎_elim, append_assoc, get_or, length-append, arith}
 use Rattle.script_fit.specs.Laws.{SaysAMisfit}
 
 pub says_on : (text more : List ℕ) → SaysAMisfit text → SaysAMisfit (text ++ more)
@@ -22,11 +22,22 @@ pub all_strays : {A : Type 0} (f : A → List ℕ) (xs : List A) → ((x : A) �
 all_strays f [] each = inl refl
 all_strays f (x ∷ xs) each = strays_on (f x) (flat_map f xs) (each x) (all_strays f xs each)
 
-pub strays_say_nothing : (text : List ℕ) → IsStrays text → SaysAMisfit text → ⊥
-strays_say_nothing text is s =
+-- a text is empty, or begins with how much room there is
+abbrev pub IsRoom : List ℕ → Type 0
+IsRoom text = (text ≡ []) ⊎ ((rest : List ℕ) × (text ≡ codes "room: " ++ rest))
+
+room_says_nothing : (text : List ℕ) → IsRoom text → SaysAMisfit text → ⊥
+room_says_nothing text is s =
     ⊎_elim
     (λ (e : text ≡ []). let z : 0 ≡ 109 = ap (λ xs. get_or xs 0 0) (sym e ∙ s.1) in absurd (omega (arith, z)))
-    (λ (e : (rest : List ℕ) × (text ≡ codes "stray: " ++ rest)). let z : 115 ≡ 109 = ap (λ xs. get_or xs 0 0) (sym e.1 ∙ s.1) in absurd (omega (arith, z))) is
+    (λ (e : (rest : List ℕ) × (text ≡ codes "room: " ++ rest)). let z : 114 ≡ 109 = ap (λ xs. get_or xs 0 0) (sym e.1 ∙ s.1) in absurd (omega (arith, z))) is
+
+pub strays_say_nothing : (text more : List ℕ) → IsStrays text → IsRoom more → SaysAMisfit (text ++ more) → ⊥
+strays_say_nothing text more is room s =
+    ⊎_elim
+    (λ (e : text ≡ []). room_says_nothing more room (subst SaysAMisfit (ap (λ xs. xs ++ more) e) s))
+    (λ (e : (rest : List ℕ) × (text ≡ codes "stray: " ++ rest)).
+    let z : 115 ≡ 109 = ap (λ xs. get_or xs 0 0) (sym (ap (λ xs. xs ++ more) e.1) ∙ s.1) in absurd (omega (arith, z))) is
 
 -- ---- endings
 -- of two texts that are one the bytes before the last are one

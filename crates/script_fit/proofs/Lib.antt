@@ -4,3 +4,4 @@ pub mod Beginnings
 pub mod Sayings
 pub mod Coming
 pub mod Chains
+pub mod Noted

@@ -20,6 +20,7 @@ nodes_after d line.Skipped new adds = same d new (ap (λ (z : Draft). z.nodes) a
 nodes_after d (line.Period ms) new adds = same d new (ap (λ (z : Draft). z.nodes) adds)
 nodes_after d (line.Seed n) new adds = same d new (ap (λ (z : Draft). z.nodes) adds)
 nodes_after d (line.End l) new adds = same d new (ap (λ (z : Draft). z.nodes) adds)
+nodes_after d (line.Latency l) new adds = same d new (ap (λ (z : Draft). z.nodes) adds)
 nodes_after d (line.Link names) new adds = same d new (ap (λ (z : Draft). z.nodes) adds)
 nodes_after d (line.Hop l) new adds = same d new (ap (λ (z : Draft). z.nodes) adds)
 nodes_after d (line.StalePath l) new adds = same d new (ap (λ (z : Draft). z.nodes) adds)
@@ -28,6 +29,7 @@ nodes_after d (line.StaleHopWall l) new adds = same d new (ap (λ (z : Draft). z
 nodes_after d (line.StaleSenderWall l) new adds = same d new (ap (λ (z : Draft). z.nodes) adds)
 nodes_after d (line.Send l) new adds = same d new (ap (λ (z : Draft). z.nodes) adds)
 nodes_after d (line.Drop l) new adds = same d new (ap (λ (z : Draft). z.nodes) adds)
+nodes_after d (line.Advert l) new adds = same d new (ap (λ (z : Draft). z.nodes) adds)
 nodes_after d (line.Want l) new adds = same d new (ap (λ (z : Draft). z.nodes) adds)
 nodes_after d (line.Quit l) new adds = same d new (ap (λ (z : Draft). z.nodes) adds)
 nodes_after d (line.Wait ms) new adds = same d new (ap (λ (z : Draft). z.nodes) adds)
@@ -41,6 +43,7 @@ nodes_after d (line.Trace on) new adds = same d new (ap (λ (z : Draft). z.nodes
 nodes_after d line.Report new adds = same d new (ap (λ (z : Draft). z.nodes) adds)
 nodes_after d (line.ReportEnd end) new adds = same d new (ap (λ (z : Draft). z.nodes) adds)
 nodes_after d line.Flags new adds = same d new (ap (λ (z : Draft). z.nodes) adds)
+nodes_after d line.Adverts new adds = same d new (ap (λ (z : Draft). z.nodes) adds)
 nodes_after d (line.Reroute l) new adds = same d new (ap (λ (z : Draft). z.nodes) adds)
 
 -- the node that a line declares comes behind those before

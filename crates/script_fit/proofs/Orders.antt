@@ -26,6 +26,7 @@ after_with bs a (event.Rounds times) = refl
 after_with bs a (event.Trace on) = refl
 after_with bs a (event.Report end) = refl
 after_with bs a event.Flags = refl
+after_with bs a event.Adverts = refl
 after_with bs a (event.Inject end dst bytes) = refl
 after_with bs a (event.Reroute group source hops) = refl
 

@@ -10,6 +10,7 @@ use Rattle.fit_findings.specs.declared.findings.Findings.{Findings}
 use Rattle.fit_findings.specs.declared.late.Begun.{Begun}
 use Rattle.fit_findings.specs.declared.stray.Why.{Why}
 use Rattle.network_model.specs.DemandTexts.{IsDemandText, demand_text, last_line}
+use Rattle.network_overhead.specs.Overhead.{overhead}
 use Rattle.rsvp_base.specs.declared.session.Session.{Session}
 use Rattle.script_grammar.proofs.Scripts.{leads_one}
 use Rattle.script_grammar.specs.Draft.{Draft, nothing, routing}
@@ -24,8 +25,8 @@ use Rattle.tree_model.specs.declared.locals.LocalWant.{LocalWant}
 use Rattle.script_fit.specs.Begun.{begun_by}
 use Rattle.script_fit.specs.Findings.{IsFindingsText}
 use Rattle.script_fit.specs.Laws.{AMisfitIsSaidWhereTheDemandDoesNotFit, EndsInFitsNo, SaysAMisfit}
-use Rattle.script_fit.specs.Texts.{clash_head, clash_text, end_words, idle_line, idle_of, idle_text, large_head, large_text, misfits_text, name_at, over_head, over_text, sends_words, stray_line, stray_text, strays_text, tables_line, tables_text}
-use Rattle.script_fit.proofs.Beginnings.{IsStrays, all_strays, one_before_last, says_on, strays_on, strays_say_nothing}
+use Rattle.script_fit.specs.Texts.{clash_head, clash_text, end_words, findings_text, idle_line, idle_of, idle_text, large_head, large_text, misfits_text, name_at, over_head, over_text, room_line, room_text, sends_words, stray_line, stray_text, strays_text, tables_line, tables_text}
+use Rattle.script_fit.proofs.Beginnings.{IsRoom, IsStrays, all_strays, one_before_last, says_on, strays_on, strays_say_nothing}
 
 -- ---- misfits
 over_says : (name : List ℕ) (sum capacity : ℕ) → SaysAMisfit (over_head name sum capacity)
@@ -107,16 +108,28 @@ one_idle nodes xs place = by (slice_get xs place)
 all_are_strays : (nodes : List (List ℕ)) (l : Locals) (f : Findings) → IsStrays (strays_text nodes l f)
 all_are_strays nodes l f = strays_on _ _ (all_strays (stray_text nodes l) f.askers.items (one_stray nodes l)) (all_strays (idle_text nodes l.senders) f.idle.items (one_idle nodes l.senders))
 
+-- ---- room
+room_begins : (n : ℕ) → IsRoom (room_line n)
+unfolding room_line
+room_begins n = inr (drop 6 (room_line n), refl)
+
+a_room_text : (b : Bool) (n : ℕ) → IsRoom (room_text b n)
+a_room_text true n = room_begins n
+a_room_text false n = inl refl
+
 -- ---- findings and demands
 module _ (nodes names : List (List ℕ)) (net : Net) (l : Locals) (begun : List Begun) where
   said_unfit : (text : List ℕ) → IsFindingsText nodes names net l begun text → (DemandsFit net l → ⊥) → SaysAMisfit text
   said_unfit text t unfit =
-      subst SaysAMisfit (sym t.text_is) (says_on (misfits_text nodes names net.ends t.found) (strays_text nodes l t.found) (misfits_said nodes names net.ends t.found (λ none. unfit (t.fits.0 none))))
+      subst SaysAMisfit (sym t.text_is)
+      (says_on (findings_text nodes names net.ends l t.found) (room_text t.fits (overhead net l))
+      (says_on (misfits_text nodes names net.ends t.found) (strays_text nodes l t.found) (misfits_said nodes names net.ends t.found (λ none. unfit (t.none.0 none)))))
 
   fit_unsaid : (text : List ℕ) → IsFindingsText nodes names net l begun text → DemandsFit net l → SaysAMisfit text → ⊥
   fit_unsaid text t fit says =
-      let nothing : misfits_text nodes names net.ends t.found ≡ [] = nothing_said nodes names net.ends t.found (t.fits.1 fit) in
-      strays_say_nothing (strays_text nodes l t.found) (all_are_strays nodes l t.found) (subst SaysAMisfit (t.text_is ∙ ap (λ xs. xs ++ strays_text nodes l t.found) nothing) says)
+      let nothing : misfits_text nodes names net.ends t.found ≡ [] = nothing_said nodes names net.ends t.found (t.none.1 fit) in
+      strays_say_nothing (strays_text nodes l t.found) (room_text t.fits (overhead net l)) (all_are_strays nodes l t.found) (a_room_text t.fits (overhead net l))
+      (subst SaysAMisfit (t.text_is ∙ ap (λ xs. (xs ++ strays_text nodes l t.found) ++ room_text t.fits (overhead net l)) nothing) says)
 
 ends_no : (most : ℕ) → last_line most false ≡ (codes "longest " ++ decimal most) ++ codes " fits no\n"
 unfolding last_line

@@ -4,7 +4,7 @@ use Rattle.fit_findings.specs.Late.{begun_with, begun_without}
 use Rattle.fit_findings.specs.declared.late.Begun.{Begun}
 use Rattle.network_model.specs.Events.{Event as Happening, AtNode}
 use Rattle.network_model.specs.Happenings.{call_of}
-use Rattle.network_model.specs.RouterRules.Inputs.{Local, SendAs, DropAs, WantAs, QuitAll}
+use Rattle.network_model.specs.RouterRules.Inputs.{Local, SendAs, DropAs, AdvertAs, WantAs, QuitAll}
 use Rattle.network_model.specs.declared.event.Event.{Event}
 use Rattle.network_model.specs.declared.event.Event.TheVariants as event
 
@@ -14,6 +14,7 @@ after_call bs n (WantAs s st names flow confirm) = begun_with bs (record { node 
 after_call bs n (QuitAll s) = begun_without bs n s
 after_call bs n (SendAs s x flow) = bs
 after_call bs n (DropAs s x) = bs
+after_call bs n (AdvertAs s x) = bs
 
 abbrev pub after_event : List Begun → Happening → List Begun
 after_event bs (AtNode n l) = after_call bs n l

@@ -1,5 +1,5 @@
 -- What is written of findings, line by line.
-use Rattle.std.specs.Prelude.{ℕ, ◌+◌, Bool, ◌&&◌, nat_le, ◌==◌, List, [], ◌++◌, length, Option, None, Some, codes, slice_get, unwrap_or, if◌then◌else◌}
+use Rattle.std.specs.Prelude.{ℕ, ◌+◌, Bool, true, false, ◌&&◌, nat_le, nat_lt, ◌==◌, List, [], ◌++◌, length, Option, None, Some, codes, slice_get, unwrap_or, if◌then◌else◌}
 use Rattle.std.specs.Fmt.{decimal}
 use Rattle.std.specs.List.{flat_map, list_any}
 use Rattle.std.specs.Ordering.{eq_by_cmp}
@@ -162,6 +162,19 @@ idle_text nodes xs place = idle_of nodes (slice_get xs place)
 
 abbrev pub strays_text : List (List ℕ) → Locals → Findings → List ℕ
 strays_text nodes l f = flat_map (stray_text nodes l) f.askers.items ++ flat_map (idle_text nodes l.senders) f.idle.items
+
+-- ---- how much is in flight
+abbrev pub crowds_text : Bool → List ℕ
+crowds_text true = codes "a later round may be crowded\n"
+crowds_text false = codes "no later round is crowded\n"
+
+-- a round of the network that has settled has this refresh overhead in flight at most
+unfoldable pub room_line : ℕ → List ℕ
+room_line n = codes "room: settled, a round has at most " ++ decimal n ++ codes " datagrams in flight, and 8192 may be: " ++ crowds_text (nat_lt 8192 n)
+
+-- where the demand fits
+abbrev pub room_text : Bool → ℕ → List ℕ
+room_text fits n = if fits then room_line n else []
 
 -- ---- all
 abbrev pub findings_text : List (List ℕ) → List (List ℕ) → List End → Locals → Findings → List ℕ

@@ -1,5 +1,5 @@
 //! Writing what is found in a script.
-ghost use Rattle.std.specs.Prelude.{◌≡◌, ◌≢◌, ◌↔◌, ◌≤◌, [], List, ℕ, Some, IfErr, IfOk, IsTrue, OnOk, take, vec_capacity};
+ghost use Rattle.std.specs.Prelude.{◌≡◌, ◌≢◌, ◌≤◌, [], List, ℕ, Some, IfErr, IfOk, OnOk, take, vec_capacity};
 ghost use Rattle.std.specs.Io.KnownBytes.{Appends};
 ghost use Rattle.byte_streams.specs.Faults.{Rose};
 ghost use Rattle.laws_scripts.specs.Asked.{CanBeAsked};
@@ -13,10 +13,10 @@ ghost use Rattle.script_grammar.specs.declared.fault.Fault.{Fault as AFault};
 ghost use Rattle.script_run.specs.Advised.{IsAdvised};
 ghost use Rattle.script_run.specs.Endings.{IsOrNoMemory};
 ghost use Rattle.script_run.specs.declared.ending.Ending.{Ending as AnEnding};
-ghost use Rattle.script_fit.specs.Findings.{IsFinding, IsFindingOf, IsFindingsOf, IsFindingsText};
+ghost use Rattle.script_fit.specs.Findings.{IsFinding, IsFindingOf, IsSaidOf, IsSaying};
 
 use crate::script_lines::read_lines;
-use crate::whole_text::findings_text;
+use crate::whole_text::{Saying, findings_text};
 use byte_streams::{ReadErr, Sink, Source, read_all, write_all};
 use fit_findings::Begun;
 use line_advice::make_room;
@@ -29,14 +29,14 @@ use std::alloc::Global;
 #[derive(Drop)]
 pub struct Checked {
     pub ending: Ending,
-    /// Whether there was something to say.
+    /// Whether anything was said but that no later round is crowded.
     pub said: bool,
 }
 
 /// Reads a script of the source to its end, checks its lines, and writes to the sink what does not fit in the demands behind the last
-/// line, and who meets nobody. Its events are not run, and nothing is written before all of the input was read and found right.
-/// `advice` becomes the text that tells what is wrong with the bad line; where no line is bad, it is empty. There is room for it before
-/// the input is read.
+/// line, and who meets nobody; and where all fits, how much is in flight once the network has settled. Its events are not run, and
+/// nothing is written before all of the input was read and found right. `advice` becomes the text that tells what is wrong with the bad
+/// line; where no line is bad, it is empty. There is room for it before the input is read.
 ///
 /// Refusals come in this order: `ReadFault` or `TooLong` while the input is read; `BadLine`; `WriteFault`. `NoMemory` may come at
 /// any time before the first byte is written.
@@ -104,14 +104,14 @@ fn answer<C: Asks + Drop, K: Sink>(
     ensures refused { (number : ℕ) (why : AFault) → IsBadLine input.now number why → IsOrNoMemory (Ending.BadLine number why) result.ending }
 {
     match findings_of(alloc, checker, input, advice) {
-        Ok(text) => say(text.as_slice(), sink),
+        Ok(saying) => say(saying.text.as_slice(), saying.said, sink),
         Err(ending) => silent(ending),
     }
 }
 
-// Writes a text, which is something to say unless it is empty.
-fn say<K: Sink>(text: &[u8], sink: &mut K) -> Checked
-    ensures said { IsTrue result.said ↔ (text.now ≢ []) }
+// Writes a text, in which there is something to say, or not.
+fn say<K: Sink>(text: &[u8], said: bool, sink: &mut K) -> Checked
+    ensures said { result.said ≡ said }
     ensures done { result.ending ≡ Ending.Done → Appends (K.holds sink.old) (K.holds sink.new) text.now }
     ensures write_fault { result.ending ≡ Ending.WriteFault → Rose (K.faults sink.old) (K.faults sink.new) }
     ensures no_write_fault { result.ending ≢ Ending.WriteFault → K.faults sink.new ≡ K.faults sink.old }
@@ -119,15 +119,7 @@ fn say<K: Sink>(text: &[u8], sink: &mut K) -> Checked
     ensures others { IsWrittenOrNot result.ending }
 {
     let ending = write_text(text, sink);
-    let said = is_something(text);
     Checked { ending, said }
-}
-
-// Whether a text says something.
-fn is_something(text: &[u8]) -> bool
-    ensures { IsTrue result ↔ (text.now ≢ []) }
-{
-    !text.is_empty()
 }
 
 // What is found in this script. It ends at the first bad line, or where memory runs out.
@@ -136,13 +128,13 @@ fn findings_of<C: Asks + Drop>(
     mut checker: C,
     input: &[u8],
     advice: &mut Vec<u8>,
-) -> Result<Vec<u8>, Ending>
+) -> Result<Saying, Ending>
     requires first { C.lines checker ≡ nothing }
     requires empty { advice.old.items ≡ [] }
     requires room { most_advice ≤ vec_capacity advice.old }
     ensures quiet { OnOk result (advice.new.items ≡ []) }
     ensures advised { IfErr result (λ e. IsAdvised e input.now advice.new.items) }
-    ensures found { IfOk result (λ text. IsFindingsOf input.now text.items) }
+    ensures found { IfOk result (λ s. IsSaidOf s.said input.now s.text.items) }
     ensures stopped { IfErr result (StopsAt input.now) }
 {
     let mut nodes = Vec::new(alloc);
@@ -152,7 +144,7 @@ fn findings_of<C: Asks + Drop>(
         Err(ending) => return Err(ending),
     }
     match text_of(alloc, &checker, nodes.as_slice(), begun.as_slice()) {
-        Ok(text) => Ok(text),
+        Ok(saying) => Ok(saying),
         Err(_) => Err(Ending::NoMemory),
     }
 }
@@ -163,9 +155,9 @@ fn text_of<C: Asks>(
     checker: &C,
     nodes: &[EndName],
     begun: &[Begun],
-) -> Result<Vec<u8>, NoMemory>
+) -> Result<Saying, NoMemory>
     requires { CanBeAsked (C.lines checker.now) }
-    ensures { IfOk result (λ text. IsFindingsText nodes.now (C.lines checker.now).names (routing (C.lines checker.now)) (C.lines checker.now).locals begun.now text.items) }
+    ensures { IfOk result (λ s. IsSaying nodes.now (C.lines checker.now).names (routing (C.lines checker.now)) (C.lines checker.now).locals begun.now s.said s.text.items) }
 {
     let routing = checker.routing()?;
     let locals = checker.locals()?;

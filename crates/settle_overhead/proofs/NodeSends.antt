@@ -12,9 +12,7 @@ use Rattle.rsvp_base.proofs.Fronts.{in_filter_map, in_keys}
 use Rattle.rsvp_base.proofs.Members.{in_append, in_filter, in_flat_map}
 use Rattle.rsvp_base.proofs.SetLaws.{and_both, has-cut}
 use Rattle.rsvp_messages.specs.declared.ask.Ask.{Ask}
-use Rattle.rsvp_messages.specs.declared.message.Message.{Message}
 use Rattle.rsvp_messages.specs.declared.message.Message.TheVariants as message
-use Rattle.rsvp_messages.specs.declared.message.PathMsg.{PathMsg}
 use Rattle.rsvp_messages.specs.declared.message.ResvMsg.{ResvMsg}
 use Rattle.style_rules.specs.Merge.{PartTable}
 use Rattle.router_rules.specs.Act.{act}
@@ -33,10 +31,7 @@ use Rattle.laws_inputs.proofs.Asks.{gone_told}
 use Rattle.laws_inputs.proofs.Lists.{none_in, one_name, passed}
 use Rattle.laws_inputs.proofs.Ruling.{rule_in_parts}
 use Rattle.laws_inputs.proofs.Tests.{parts_tested}
-
--- a Path, or a Resv that asks for no confirmation
-abbrev pub IsRefreshing : Message → Type 0
-IsRefreshing n = ((m : PathMsg) × (n ≡ message.Path m)) ⊎ ((m : ResvMsg) × (n ≡ message.Resv m) × (m.confirm ≡ None))
+use Rattle.settle_refreshes.proofs.NodeSends.{IsRefreshing}
 
 module _ (p : NodeConfig) (c : ℕ) (i : Input) (f : Facts) where
   abbrev pub change : Change

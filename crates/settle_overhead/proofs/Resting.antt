@@ -1,6 +1,6 @@
 -- Worlds that have settled, one after the other: what the step between them sends.
 use Rattle.std.proofs.Common.{◌≡◌, ℕ, suc, ◌+◌, ◌≤◌, List, [], ◌∷◌, length, Bool, true, false, cond, Option, None, Some, inl, inr, ⊎_elim, arith, sym, refl, ap, subst, ◌∙◌}
-use Rattle.std.specs.Prelude.{is_some, not, slice_get, sum_by}
+use Rattle.std.specs.Prelude.{not, slice_get, sum_by}
 use Rattle.std.specs.List.{filter, range_with_len}
 use Rattle.std.specs.Option.{option_map}
 use Rattle.std.specs.Ordering.{is_lt}
@@ -11,7 +11,8 @@ use Rattle.rsvp_base.specs.declared.session.Sender.{Sender}
 use Rattle.rsvp_base.specs.declared.session.Session.{Session}
 use Rattle.rsvp_base.specs.Members.{In}
 use Rattle.rsvp_base.specs.Orders.{sessions}
-use Rattle.rsvp_base.specs.Table.{empty, get, has}
+use Rattle.rsvp_base.specs.Sets.{Set}
+use Rattle.rsvp_base.specs.Table.{Table, empty, get, has}
 use Rattle.rsvp_base.specs.TokenBucket.{TokenBucket}
 use Rattle.rsvp_base.proofs.Members.{in_each, in_filter}
 use Rattle.rsvp_base.proofs.SetLaws.{and_made}
@@ -23,23 +24,19 @@ use Rattle.rsvp_messages.specs.Units.{ask_style}
 use Rattle.router_rules.specs.declared.answers.Heard.TheVariants as heard
 use Rattle.router_rules.specs.Act.{act, act_spelt, is_mine}
 use Rattle.router_rules.specs.Asking.{act_resv, answered, ask_of, asked_of, asker_of, err_place, err_places, errors_in_order, heard_of, taking}
-use Rattle.router_rules.specs.Facts.{Facts, SenderKey}
+use Rattle.router_rules.specs.Facts.{Facts, SenderKey, sender_keys}
 use Rattle.router_rules.specs.Inputs.{Came, Change, ErrMsg, ErrSend, Input, OfPath, OfResv, Send, Spelt, Wait, in_order, put_in_order}
 use Rattle.router_rules.specs.Known.{Lane, known, lanes}
 use Rattle.router_rules.specs.NodeConfig.{NodeConfig, own}
-use Rattle.router_rules.specs.declared.advert.Advert.TheVariants.{Silent}
-use Rattle.router_rules.specs.Offers.{Offer, OfferKey, advert_by, advert_of, offer_at, offers}
+use Rattle.router_rules.specs.Offers.{Offer, OfferKey, advert_by, advert_of, offers, own_advert}
 use Rattle.router_rules.specs.Requests.{toward}
 use Rattle.router_rules.specs.Rule.{Outcome, is_silent, rule}
 use Rattle.router_rules.specs.Sends.{is_new_offer, told_at}
 use Rattle.router_rules.specs.Steps.{sent_then}
 use Rattle.router_rules.proofs.AdspecPath.Same.{same_is_equal}
-use Rattle.laws_inputs.specs.FactLaws.{is_way}
 use Rattle.laws_inputs.proofs.Knowing.{known_and_via}
 use Rattle.laws_inputs.proofs.Lists.{none_in}
-use Rattle.laws_inputs.proofs.Offering.{offers_by_way}
-use Rattle.laws_inputs.proofs.Ruling.{rule_in_parts}
-use Rattle.laws_inputs.proofs.Stepping.{offer_of, offer_source, offered, offered_is_known, quiet_due}
+use Rattle.laws_inputs.proofs.Stepping.{offer_of, offer_source, offered, quiet_due}
 use Rattle.laws_inputs.proofs.Tests.{addr_tested, flow_tested}
 use Rattle.laws_steps.specs.AcceptingLaws.{IsTakenWhole, came_resv}
 use Rattle.laws_steps.proofs.Admitting.{what_is_accepted}
@@ -47,9 +44,8 @@ use Rattle.laws_network.specs.Sources.{IsLocalOffer, IsPathOffer}
 use Rattle.tree_model.specs.declared.hops.LinkHop.{LinkHop}
 use Rattle.tree_model.specs.declared.locals.LocalSender.{LocalSender}
 use Rattle.tree_model.specs.Networks.{Net, iface_of, node_of, node_of_end}
-use Rattle.tree_model.specs.Ranks.{rank}
 use Rattle.tree_model.specs.Trees.{tree}
-use Rattle.tree_model.specs.Wants.{Locals, live, of_session, want}
+use Rattle.tree_model.specs.Wants.{Locals, live, of_session}
 use Rattle.tree_model.proofs.Ifaces.{interfaces_are_ends}
 use Rattle.network_model.specs.Links.{all_copies}
 use Rattle.network_model.specs.Locals.{IsLive, locals_of}
@@ -58,54 +54,35 @@ use Rattle.network_model.specs.Worlds.{Item, World, config_of}
 use Rattle.network_model.proofs.Machines.{in_arrived}
 use Rattle.network_model.proofs.Quiet.{FollowsRule, IsCame, input_found, outcome_quiet, IsWaited}
 use Rattle.network_model.proofs.Stepping.{copies_found, facts_after_made, sent_found}
-use Rattle.settle_adverts.specs.Adspecs.{HasNoAdspec}
+use Rattle.settle_adverts.specs.Told.{AreAdvertsExact}
+use Rattle.settle_adverts.proofs.Settling.{told_again}
 use Rattle.settle_paths.specs.Known.{IsSameNet}
-use Rattle.settle_paths.proofs.Known.{has_some}
+use Rattle.settle_paths.proofs.Known.{has_some, of_some}
 use Rattle.settle_paths.proofs.LiveSenders.{one_flow}
 use Rattle.settle_paths.proofs.Standing.{own_end}
 use Rattle.settle_paths.specs.PreviousHops.{IsPrevious, Reaches}
 use Rattle.settle_paths.proofs.PreviousHops.{ahead, previous_hops_are_all_hops}
 use Rattle.settle_resvs.specs.GoalByIface.{goal_at}
-use Rattle.settle_resvs.specs.Sessions.{AreExactOf}
-use Rattle.settle_resvs.proofs.Accepting.{IsReady, can_be_taken}
-use Rattle.settle_resvs.proofs.ExactResvs.{IsSteady, toward_at}
-use Rattle.settle_overhead.specs.Overhead.{node_overhead, overhead}
-use Rattle.settle_overhead.specs.Roomy.{HasOnlyRefreshes, IsRefresh}
+use Rattle.settle_resvs.proofs.Accepting.{can_be_taken}
+use Rattle.network_overhead.specs.Overhead.{node_overhead, overhead}
+use Rattle.settle_refreshes.specs.Refreshes.{HasOnlyRefreshes, IsRefresh}
+use Rattle.settle_refreshes.proofs.Resting.{IsAtRest, ready, some_session}
+use Rattle.settle_refreshes.proofs.Resting as resting
 use Rattle.settle_overhead.proofs.NodeSends.{IsUnchanged, after, nothing_sent, sends_refreshes}
 use Rattle.settle_overhead.proofs.NodeCounts.{few_sent}
 
--- ---- a world with the network of w, of which the same is asked, in which each session has settled
-pub record IsAtRest (q : ℕ) (w u : World) : Type 0 where
-  pub same : IsSameNet w u
-  pub steady : (s : Session) → IsSteady q s u
-  pub exact : (s : Session) → AreExactOf s u
-  pub silent : HasNoAdspec u
+-- ---- a world at rest, in which what each path is told is exact
+pub record IsToldAtRest (q : ℕ) (w u : World) : Type 0 where
+  pub rest : IsAtRest q w u
+  pub told : AreAdvertsExact u
 
-pub some_session : Session
-some_session = record { group = record { 0 = 0 }; proto = 0; port = 0 }
-
-module _ (q : ℕ) (w u : World) (rest : IsAtRest q w u) where
-  pub ready : IsReady q some_session u
-  ready = (rest.steady some_session).ready
-
-  -- what goes toward a previous hop is what is wanted over its hop
-  pub toward_is : (n : ℕ) (f : Facts) (l : Lane) (h : LinkHop) → slice_get u.nodes n ≡ Some f → IsPrevious u.net n l.session l.hop h
-      → toward (config_of q u.net u.trees n) f l ≡ want l.style u.net (locals_of u) l.session h
-  toward_is n f l h at is =
-      toward_at q l.session (rank u.net l.session.group h) u (rest.steady l.session) (λ st h' there near. rest.exact l.session st h' there) n f at l refl h is (omega arith)
-
+module _ (q : ℕ) (w u : World) (a : IsToldAtRest q w u) where
   -- what is offered is what a live sender sends
   pub live_offer : (n : ℕ) (f : Facts) (p : NodeConfig) (k : OfferKey) (o : Offer) → slice_get u.nodes n ≡ Some f → get (offers p f) k ≡ Some o → IsLive u (k.session, k.sender) o.tspec
   live_offer n f p k o at e =
       ⊎_elim
       (λ (x : IsLocalOffer f k o). record { node = n; senders = f.senders; at = ap (option_map (λ (z : Facts). z.senders)) at; sends = x.there })
-      (λ (x : IsPathOffer f k o). subst (λ (z : TokenBucket). IsLive u (k.session, k.sender) z) (sym x.tspec) (ready.sound.facts n f (k.session, k.sender) x.path at x.there).sound.live)
-      (offer_source f k o (offer_of p f k o e))
-
-  -- and has no ADSPEC
-  pub silent_offer : (n : ℕ) (f : Facts) (p : NodeConfig) (k : OfferKey) (o : Offer) → slice_get u.nodes n ≡ Some f → get (offers p f) k ≡ Some o → o.advert ≡ Silent
-  silent_offer n f p k o at e =
-      ⊎_elim (λ (x : IsLocalOffer f k o). x.advert) (λ (x : IsPathOffer f k o). x.advert ∙ ap advert_of (rest.silent.kept n f (k.session, k.sender) x.path at x.there))
+      (λ (x : IsPathOffer f k o). subst (λ (z : TokenBucket). IsLive u (k.session, k.sender) z) (sym x.tspec) ((ready q w u a.rest).sound.facts n f (k.session, k.sender) x.path at x.there).sound.live)
       (offer_source f k o (offer_of p f k o e))
 
 -- a live sender of a session is one of the senders
@@ -116,14 +93,9 @@ of_live l s x i =
     (r.0, t.0, sym (tied_same sessions s r.0.session t.1), sym r.2)
 
 -- ---- from one to the other
-module _ (q : ℕ) (w u v : World) (a : IsAtRest q w u) (b : IsAtRest q w v) where
-  pub same_net : IsSameNet u v
-  same_net = record {
-    net = b.same.net ∙ sym a.same.net;
-    trees = b.same.trees ∙ sym a.same.trees;
-    senders = λ n. b.same.senders n ∙ sym (a.same.senders n);
-    locals = b.same.locals ∙ sym a.same.locals;
-  }
+module _ (q : ℕ) (w u v : World) (a : IsToldAtRest q w u) (b : IsToldAtRest q w v) where
+  same_net : IsSameNet u v
+  same_net = resting.same_net q w u v a.rest b.rest
 
   module _ (n : ℕ) (f : Facts) (at : slice_get u.nodes n ≡ Some f) (c : ℕ) (i : Input) where
     abbrev p : NodeConfig
@@ -133,60 +105,61 @@ module _ (q : ℕ) (w u v : World) (a : IsAtRest q w u) (b : IsAtRest q w v) whe
     g = (rule p p c i f).facts
 
     module _ (at' : slice_get v.nodes n ≡ Some g) where
-      -- the node knows whom it knew
-      knows : (s : Session) (x : Sender) → has (known f s) x ≡ true → has (known g s) x ≡ true
-      knows s x e =
-          let r = ((previous_hops_are_all_hops u (ready q w u a).bounds.net (ready q w u a).locals (ready q w u a).sound (ready q w u a).complete).known n f s x at).0 e in
-          ((previous_hops_are_all_hops v (ready q w v b).bounds.net (ready q w v b).locals (ready q w v b).sound (ready q w v b).complete).known n g s x at').1
-          (subst (λ (z : Net × Locals). In x (live z.1 s) × Reaches z.0 n s.group x.addr) (λ j. (sym same_net.net j, sym same_net.locals j)) r)
-
+      -- the node knew whom it knows
       knew : (s : Session) (x : Sender) → has (known g s) x ≡ true → In x (live (locals_of u) s) × (has (known f s) x ≡ true)
       knew s x e =
-          let r = ((previous_hops_are_all_hops v (ready q w v b).bounds.net (ready q w v b).locals (ready q w v b).sound (ready q w v b).complete).known n g s x at').0 e in
+          let r = ((previous_hops_are_all_hops v (ready q w v b.rest).bounds.net (ready q w v b.rest).locals (ready q w v b.rest).sound (ready q w v b.rest).complete).known n g s x at').0 e in
           let z = subst (λ (z : Net × Locals). In x (live z.1 s) × Reaches z.0 n s.group x.addr) (λ j. (same_net.net j, same_net.locals j)) r in
-          (z.0, ((previous_hops_are_all_hops u (ready q w u a).bounds.net (ready q w u a).locals (ready q w u a).sound (ready q w u a).complete).known n f s x at).1 z)
-
-      -- and offers what it offered
-      offers_on : (h : Facts) (k : OfferKey) → is_way p k ≡ true → has (known h k.session) k.sender ≡ true → has (offers p h) k ≡ true
-      offers_on h k way e =
-          ap (λ (z : Option Offer). is_some z) (offers_by_way p h k) ∙ ap (λ (z : Bool). is_some (cond z (offer_at h k) None)) way ∙ offered_is_known h k ∙ e
-
-      still_offered : (k : OfferKey) → has (offers p f) k ≡ true → has (offers p g) k ≡ true
-      still_offered k e =
-          let y = has_some (get (offers p f) k) e in
-          let o = offered p f k y.0 y.1 in
-          offers_on g k o.way (knows k.session k.sender o.known_one)
+          (z.0, ((previous_hops_are_all_hops u (ready q w u a.rest).bounds.net (ready q w u a.rest).locals (ready q w u a.rest).sound (ready q w u a.rest).complete).known n f s x at).1 z)
 
       still_live : (k : SenderKey) (t : TokenBucket) → IsLive u k t → IsLive v k t
       still_live k t l = record { node = l.node; senders = l.senders; at = same_net.senders l.node ∙ l.at; sends = l.sends }
 
+      -- with the ADSPEC with which it offered it
+      same_senders : g.senders ≡ f.senders
+      same_senders = of_some g.senders f.senders (sym (ap (option_map (λ (z : Facts). z.senders)) at') ∙ same_net.senders n ∙ ap (option_map (λ (z : Facts). z.senders)) at)
+
+      same_marks : g.advertised ≡ f.advertised
+      same_marks = of_some g.advertised f.advertised (sym (ap (option_map (λ (z : Facts). z.advertised)) at') ∙ same_net.advertised n ∙ ap (option_map (λ (z : Facts). z.advertised)) at)
+
+      same_advert : (k : OfferKey) (o before : Offer) → get (offers p g) k ≡ Some o → get (offers p f) k ≡ Some before → o.advert ≡ before.advert
+      same_advert k o before e was =
+          let key : SenderKey = (k.session, k.sender) in
+          ⊎_elim
+          (λ (x : IsLocalOffer g k o).
+          ⊎_elim (λ (y : IsLocalOffer f k before). x.advert ∙ ap (λ (z : Set sender_keys). own_advert (has z key)) same_marks ∙ sym y.advert)
+          (λ (y : IsPathOffer f k before).
+          let no : Some o.tspec ≡ None = sym x.there ∙ ap (λ (z : Table sender_keys TokenBucket). get z key) same_senders ∙ y.no_local in absurd (cc))
+          (offer_source f k before (offer_of p f k before was)))
+          (λ (x : IsPathOffer g k o).
+          ⊎_elim
+          (λ (y : IsLocalOffer f k before).
+          let no : Some before.tspec ≡ None = sym y.there ∙ ap (λ (z : Table sender_keys TokenBucket). get z key) (sym same_senders) ∙ x.no_local in absurd (cc))
+          (λ (y : IsPathOffer f k before).
+          x.advert ∙ ap advert_of (b.told.kept n g key x.path at' x.there ∙ told_again u v key n same_net ∙ sym (a.told.kept n f key y.path at y.there)) ∙ sym y.advert)
+          (offer_source f k before (offer_of p f k before was)))
+          (offer_source g k o (offer_of p g k o e))
+
       not_new : (k : OfferKey) (o : Offer) → get (offers p g) k ≡ Some o → is_new_offer p k.iface o (get (offers p f) k) ≡ false
       not_new k o e =
           let of = offered p g k o e in
-          let y = has_some (get (offers p f) k) (offers_on f k of.way (knew k.session k.sender of.known_one).1) in
+          let y = has_some (get (offers p f) k) (resting.offers_on q w u v a.rest b.rest n f at c i at' f k of.way (knew k.session k.sender of.known_one).1) in
           let now = live_offer q w v b n g p k o at' e in
           let before = live_offer q w u a n f p k y.0 at y.1 in
-          let same : o.tspec ≡ y.0.tspec = one_flow v (ready q w v b).locals (k.session, k.sender) o.tspec y.0.tspec now (still_live (k.session, k.sender) y.0.tspec before) in
+          let same : o.tspec ≡ y.0.tspec = one_flow v (ready q w v b.rest).locals (k.session, k.sender) o.tspec y.0.tspec now (still_live (k.session, k.sender) y.0.tspec before) in
           let told : told_at p k.iface o ≡ told_at p k.iface y.0 =
-          ap (advert_by (slice_get p.ifaces k.iface)) (silent_offer q w v b n g p k o at' e ∙ sym (silent_offer q w u a n f p k y.0 at y.1)) in
+          ap (advert_by (slice_get p.ifaces k.iface)) (same_advert k o y.0 e y.1) in
           ap (is_new_offer p k.iface o) y.1 ∙ ap not (and_made _ _ (flow_tested o.tspec y.0.tspec same) ((same_is_equal (told_at p k.iface o) (told_at p k.iface y.0)).1 told))
 
       -- what goes toward a previous hop is what went
-      toward_now : (l : Lane) (h : LinkHop) → IsPrevious u.net n l.session l.hop h → toward p (after p c i f) l ≡ want l.style u.net (locals_of u) l.session h
-      toward_now l h is =
-          sym (rule_in_parts.toward_same p p c i f l)
-          ∙ subst (λ (z : (Net × List (Addr × Addr)) × Locals). toward (config_of q z.0.0 z.0.1 n) g l ≡ want l.style z.0.0 z.1 l.session h)
-          (λ j. ((same_net.net j, same_net.trees j), same_net.locals j))
-          (toward_is q w v b n g l h at' (subst (λ (z : Net). IsPrevious z n l.session l.hop h) (sym same_net.net) is))
-
       same_toward : (l : Lane) (h : LinkHop) → IsPrevious u.net n l.session l.hop h → toward p f l ≡ toward p (after p c i f) l
-      same_toward l h is = toward_is q w u a n f l h at is ∙ sym (toward_now l h is)
+      same_toward = resting.same_toward q w u v a.rest b.rest n f at c i at'
 
       way_then : (l : Lane) → has (lanes g) l ≡ true → (x : Sender) × (h : LinkHop) × IsPrevious u.net n l.session l.hop h × In h (tree u.net.hops l.session.group x.addr)
           × In x (live (locals_of u) l.session)
       way_then l e =
           let r = (known_and_via.lanes_by g l).0 e in
-          let z = ahead v n g (ready q w v b).sound at' l.session l.hop r.0 r.1 in (
+          let z = ahead v n g (ready q w v b.rest).sound at' l.session l.hop r.0 r.1 in (
             r.0,
             z.way,
             subst (λ (net : Net). IsPrevious net n l.session l.hop z.way) same_net.net z.previous,
@@ -200,11 +173,11 @@ module _ (q : ℕ) (w u v : World) (a : IsAtRest q w u) (b : IsAtRest q w v) whe
         errors = errors;
         confs = confs;
         asked = asked;
-        offered = still_offered;
+        offered = resting.still_offered q w u v a.rest b.rest n f at c i at';
         not_new = not_new;
         went = λ l e.
             let r = (known_and_via.lanes_by f l).0 e in
-            let z = ahead u n f (ready q w u a).sound at l.session l.hop r.0 r.1 in
+            let z = ahead u n f (ready q w u a.rest).sound at l.session l.hop r.0 r.1 in
             same_toward l z.way z.previous;
         goes = λ l e. let r = way_then l e in same_toward l r.1 r.2;
       }
@@ -212,7 +185,7 @@ module _ (q : ℕ) (w u v : World) (a : IsAtRest q w u) (b : IsAtRest q w v) whe
       -- so what it sends is no more than its part of the overhead
       pub few_of_node : IsUnchanged p c i f → length (all_copies u.net u.made n (sent_then p p c i f)) ≤ node_overhead u.net (locals_of u) n
       few_of_node same =
-          few_sent q u.net u.trees n c i f (ready q w u a).bounds.net (ready q w u a).bounds.hosts (locals_of u) u.made same
+          few_sent q u.net u.trees n c i f (ready q w u a.rest).bounds.net (ready q w u a.rest).bounds.hosts (locals_of u) u.made same
           (λ k o e.
           let z = of_live (locals_of u) k.session k.sender (knew k.session k.sender (offered p g k o e).known_one).0 in
           record { sender = z.0; there = z.1; session = z.2; name = z.3 })
@@ -226,7 +199,7 @@ module _ (q : ℕ) (w u v : World) (a : IsAtRest q w u) (b : IsAtRest q w v) whe
             there = z.1;
             session = z.2;
             over = subst (λ (d : Session × Sender). In r.1 (tree u.net.hops d.0.group d.1.addr)) (λ j. (sym z.2 j, sym z.3 j)) r.3;
-            wanted = toward_now lane r.1 r.2;
+            wanted = resting.toward_now q w u v a.rest b.rest n f at c i at' lane r.1 r.2;
           })
 
 -- ---- an input that is a refresh
@@ -313,7 +286,7 @@ module _ (q : ℕ) (w u : World) (rest : IsAtRest q w u) (y : Item) (m : ResvMsg
       })
 
 -- ---- a delivery of a refresh sends nothing
-module _ (q : ℕ) (w u : World) (a : IsAtRest q w u) (b : IsAtRest q w (step q (Deliver 0) u)) (only : HasOnlyRefreshes u) where
+module _ (q : ℕ) (w u : World) (a : IsToldAtRest q w u) (b : IsToldAtRest q w (step q (Deliver 0) u)) (only : HasOnlyRefreshes u) where
   unanswered : (n : ℕ) (f : Facts) (i : Input) → slice_get u.nodes n ≡ Some f → IsCame (Deliver 0) u n i → IsUnanswered (config_of q u.net u.trees n) u.clock i f
   unanswered n f i at z =
       let flies : In z.item u.flight = in_arrived (Deliver 0) u z.item z.arrives in
@@ -325,7 +298,7 @@ module _ (q : ℕ) (w u : World) (a : IsAtRest q w u) (b : IsAtRest q w (step q 
       (λ (x : (m : PathMsg) × (z.item.arrival ≡ Spelt (message.Path m))).
       subst (λ (d : Input). IsUnanswered (config_of q u.net u.trees (node_of u.net.ends z.item.end)) u.clock d f) (λ j. Came e z.item.dst (sym x.1 j))
       (path_unanswered (config_of q u.net u.trees (node_of u.net.ends z.item.end)) u.clock e z.item.dst x.0 f))
-      (λ (x : (m : ResvMsg) × (z.item.arrival ≡ Spelt (message.Resv m)) × (m.confirm ≡ None)). resv_unanswered q w u a z.item x.0 flies x.1 x.2 f there)
+      (λ (x : (m : ResvMsg) × (z.item.arrival ≡ Spelt (message.Resv m)) × (m.confirm ≡ None)). resv_unanswered q w u a.rest z.item x.0 flies x.1 x.2 f there)
       (only z.item flies) in
       subst (λ (d : ℕ × Input). IsUnanswered (config_of q u.net u.trees d.0) u.clock d.1 f) (λ j. (node j, sym z.is j)) done
 
@@ -355,7 +328,7 @@ module _ (q : ℕ) (w u : World) (a : IsAtRest q w u) (b : IsAtRest q w (step q 
       subst (λ (ss : List Send). In x (all_copies u.net u.made r.0 ss)) (quiet_node r.0 r.1 r.2) r.3)
 
 -- ---- a piece of a wait sends the refresh overhead at most, and refreshes alone
-module _ (q ms : ℕ) (w u : World) (a : IsAtRest q w u) (b : IsAtRest q w (step q (Piece ms) u)) where
+module _ (q ms : ℕ) (w u : World) (a : IsToldAtRest q w u) (b : IsToldAtRest q w (step q (Piece ms) u)) where
   abbrev waits : ℕ → Input
   waits n = Wait ms (word_for u.words n)
 
@@ -379,9 +352,9 @@ module _ (q ms : ℕ) (w u : World) (a : IsAtRest q w u) (b : IsAtRest q w (step
   pub few_refreshes : length (sent q (Piece ms) u) ≤ overhead w.net (locals_of w)
   few_refreshes =
       let few = few_from 0 u.nodes (λ j f e. let z : 0 + j ≡ j = omega arith in subst (λ (d : ℕ). slice_get u.nodes d ≡ Some f) (sym z) e) in
-      let many : length u.nodes ≡ u.net.nodes = (ready q w u a).bounds.nodes in
+      let many : length u.nodes ≡ u.net.nodes = (ready q w u a.rest).bounds.nodes in
       let same : sum_by (node_overhead u.net (locals_of u)) (range_with_len 0 (length u.nodes)) ≡ overhead w.net (locals_of w) =
-      ap (λ (d : ℕ). sum_by (node_overhead u.net (locals_of u)) (range_with_len 0 d)) many ∙ (λ j. overhead (a.same.net j) (a.same.locals j)) in
+      ap (λ (d : ℕ). sum_by (node_overhead u.net (locals_of u)) (range_with_len 0 d)) many ∙ (λ j. overhead (a.rest.same.net j) (a.rest.same.locals j)) in
       omega (arith, few, same)
 
   pub refreshes_sent : (y : Item) (mark : Bool) → In (y, mark) (sent q (Piece ms) u) → IsRefresh y

@@ -4,13 +4,12 @@ use Rattle.std.specs.Prelude.{map as each}
 use Rattle.std.specs.List.{remove, repeat}
 use Rattle.std.proofs.lemmas.Bool.{le-ltb}
 use Rattle.std.proofs.lemmas.List.{length-append, length-map}
-use Rattle.rsvp_base.specs.declared.session.Session.{Session}
 use Rattle.rsvp_base.specs.Members.{In}
 use Rattle.rsvp_base.proofs.Members.{in_append, in_each}
 use Rattle.calm_rounds.specs.Hold.{Hold, Visited}
 use Rattle.calm_rounds.specs.Machine.{run}
 use Rattle.calm_rounds.specs.Rounds.{Rounds, run_rounds}
-use Rattle.calm_rounds.proofs.Holding.{hold_all, hold_both, hold_later, hold_map, visited_start}
+use Rattle.calm_rounds.proofs.Holding.{hold_both, hold_later, hold_map, visited_start}
 use Rattle.tree_model.specs.Ranks.{longest}
 use Rattle.network_model.specs.Bounds.{IsStart, all_of}
 use Rattle.network_model.specs.Events.{a_round, half, halves, pass, rounds}
@@ -22,15 +21,13 @@ use Rattle.network_model.proofs.Listing.{in_remove}
 use Rattle.laws_network.specs.Rounds.{rounds_of}
 use Rattle.laws_network.proofs.Calming.{rounds_is_calm}
 use Rattle.laws_network.proofs.Keeping.{calm_rounds_keep_bounds}
-use Rattle.settle_resvs.proofs.Accepting.{fits_again, locals_again}
-use Rattle.settle_resvs.proofs.GoalByIface.{each_fits}
-use Rattle.settle_adverts.specs.Adspecs.{HasNoAdspec}
-use Rattle.settle_adverts.proofs.DyingOut.{adspecs_die_out}
-use Rattle.settle_network.specs.Sessions.{HasSettledFor}
-use Rattle.settle_network.proofs.Settled.{IsSound, a_session_settles, all_sound, run_then}
-use Rattle.settle_overhead.specs.Overhead.{overhead}
-use Rattle.settle_overhead.specs.Roomy.{HasOnlyRefreshes}
-use Rattle.settle_overhead.proofs.Resting.{IsAtRest, delivery_sends_nothing, few_refreshes, refreshes_sent}
+use Rattle.settle_adverts.specs.Told.{AreAdvertsExact}
+use Rattle.settle_adverts.proofs.Settling.{adverts_are_exact}
+use Rattle.settle_network.proofs.Settled.{run_then}
+use Rattle.network_overhead.specs.Overhead.{overhead}
+use Rattle.settle_refreshes.specs.Refreshes.{HasOnlyRefreshes}
+use Rattle.settle_refreshes.proofs.Resting.{IsAtRest, at_rest}
+use Rattle.settle_overhead.proofs.Resting.{IsToldAtRest, delivery_sends_nothing, few_refreshes, refreshes_sent}
 
 -- ---- worlds that stretches of steps visit
 visited_split : (q : ℕ) (Q : World → Type 0) (ss ts : List Step) (u : World) → Visited (machine q) Q (ss ++ ts) u → Visited (machine q) Q ss u × Visited (machine q) Q ts (run (machine q) ss u)
@@ -55,36 +52,14 @@ visited_rounds : (q : ℕ) (Q : World → Type 0) (ts : List (List Step)) (u : W
 visited_rounds q Q [] u h = h
 visited_rounds q Q (r ∷ rs) u h = visited_join q Q r (all_of rs) u h.0 (visited_rounds q Q rs (run (machine q) r u) h.1)
 
--- ---- 13 H + 13 calm rounds on each world is at rest
-at_rest : (q : ℕ) (w : World) (rs : List (List Step)) → Rounds (machine q) rs w → IsStart q w → Hold (machine q) (13 * longest w.net + 13) rs w (IsAtRest q w)
-at_rest q w rs calm start =
+-- ---- 13 H + 13 calm rounds on each world is at rest, and what each path is told is exact
+told_at_rest : (q : ℕ) (w : World) (rs : List (List Step)) → Rounds (machine q) rs w → IsStart q w → Hold (machine q) (13 * longest w.net + 13) rs w (IsToldAtRest q w)
+told_at_rest q w rs calm start =
     let k : ℕ = 13 * longest w.net + 13 in
-    let fits = each_fits w.net (locals_of w) start.fit in
-    let sound = hold_later (machine q) (IsSound q w rs calm start.bounds start.locals) ((4 + 5 * longest w.net) + (5 + 5 * longest w.net)) k rs w (omega arith)
-    (all_sound q w rs calm start.bounds start.locals) in
-    let settled = hold_all (machine q) (λ (s : Session) u. HasSettledFor q s u) k rs w (λ s. a_session_settles q w rs calm start.bounds start.locals s (fits s)) in
-    let silent = hold_later (machine q) HasNoAdspec (4 + 5 * longest w.net) k rs w (omega arith) (adspecs_die_out q w rs calm (calm_rounds_keep_bounds q w rs calm start.bounds)) in
-    hold_map (machine q) (λ u. (IsSound q w rs calm start.bounds start.locals u × ((s : Session) → HasSettledFor q s u)) × HasNoAdspec u) (IsAtRest q w)
-    (λ u g. let h = g.0 in record {
-      same = h.0.known.same;
-      steady = λ s.
-          record {
-            ready = record {
-              bounds = h.0.known.bounds;
-              locals = locals_again w u h.0.known.same start.locals;
-              fit = fits_again s w u h.0.known.same (fits s);
-              sound = h.0.so_far.0;
-              complete = h.0.so_far.1.0;
-              resvs = h.0.so_far.1.1;
-            };
-            free = (h.1 s).no_blockade;
-            addressed = h.0.addressed;
-          };
-      exact = λ s. (h.1 s).exact;
-      silent = g.1;
-    }) k rs w
-    (hold_both (machine q) (λ u. IsSound q w rs calm start.bounds start.locals u × ((s : Session) → HasSettledFor q s u)) HasNoAdspec k rs w
-    (hold_both (machine q) (IsSound q w rs calm start.bounds start.locals) (λ u. (s : Session) → HasSettledFor q s u) k rs w sound settled) silent)
+    let told = hold_later (machine q) AreAdvertsExact (4 + 5 * longest w.net) k rs w (omega arith)
+    (adverts_are_exact q w rs calm start.locals (calm_rounds_keep_bounds q w rs calm start.bounds)) in
+    hold_map (machine q) (λ u. IsAtRest q w u × AreAdvertsExact u) (IsToldAtRest q w) (λ u h. record { rest = h.0; told = h.1 }) k rs w
+    (hold_both (machine q) (IsAtRest q w) AreAdvertsExact k rs w (at_rest q w rs calm start) told)
 
 -- ---- with the overhead of w
 module _ (q : ℕ) (w : World) (top : ℕ) where
@@ -100,12 +75,12 @@ module _ (q : ℕ) (w : World) (top : ℕ) where
   no_length [] e = refl
   no_length (x ∷ xs) e = absurd (omega (arith, e))
 
-  roomy_pass : (m : ℕ) (u : World) → length u.flight ≡ m → Visited (machine q) (IsAtRest q w) (repeat m (Deliver 0 ∷ [])) u → HasOnlyRefreshes u → IsRoomy u
+  roomy_pass : (m : ℕ) (u : World) → length u.flight ≡ m → Visited (machine q) (IsToldAtRest q w) (repeat m (Deliver 0 ∷ [])) u → HasOnlyRefreshes u → IsRoomy u
       → Visited (machine q) IsRoomy (repeat m (Deliver 0 ∷ [])) u × ((run (machine q) (repeat m (Deliver 0 ∷ [])) u).flight ≡ [])
   roomy_pass zero u is rest only roomy = (roomy, no_length u.flight is)
   roomy_pass (suc m) u is rest only roomy =
       let next : World = step q (Deliver 0) u in
-      let none = delivery_sends_nothing q w u rest.0 (visited_start (machine q) (IsAtRest q w) (repeat m (Deliver 0 ∷ [])) next rest.1) only in
+      let none = delivery_sends_nothing q w u rest.0 (visited_start (machine q) (IsToldAtRest q w) (repeat m (Deliver 0 ∷ [])) next rest.1) only in
       let flight : next.flight ≡ remove u.flight 0 = ap (λ (z : List (Item × Bool)). remove u.flight 0 ++ each (λ (y : Item × Bool). y.0) z) none ∙ append_none (remove u.flight 0) in
       let fewer : length (remove u.flight 0) ≡ m = first_gone u.flight is in
       let now : length next.flight ≡ m = ap length flight ∙ fewer in
@@ -120,11 +95,11 @@ module _ (q : ℕ) (w : World) (top : ℕ) where
       first_gone [] e = absurd (omega (arith, e))
       first_gone (x ∷ xs) e = omega (arith, e)
 
-  roomy_half : (u : World) → Visited (machine q) (IsAtRest q w) (half q u) u → HasRoom u
+  roomy_half : (u : World) → Visited (machine q) (IsToldAtRest q w) (half q u) u → HasRoom u
       → Visited (machine q) IsRoomy (half q u) u × HasRoom (run (machine q) (half q u) u) × ((run (machine q) (half q u) u).flight ≡ [])
   roomy_half u rest room =
       let next : World = step q (Piece (2 * q)) u in
-      let there = visited_start (machine q) (IsAtRest q w) (pass q next) next rest.1 in
+      let there = visited_start (machine q) (IsToldAtRest q w) (pass q next) next rest.1 in
       let few = few_refreshes q (2 * q) w u rest.0 there in
       let long = length-append u.flight (each (λ (y : Item × Bool). y.0) (sent q (Piece (2 * q)) u)) in
       let same = length-map (sent q (Piece (2 * q)) u) (λ (y : Item × Bool). y.0) in
@@ -143,46 +118,46 @@ module _ (q : ℕ) (w : World) (top : ℕ) where
         r.1,
       )
 
-  roomy_halves : (n : ℕ) (u : World) → Visited (machine q) (IsAtRest q w) (halves q n u) u → HasRoom u → Visited (machine q) IsRoomy (halves q n u) u × HasRoom (run (machine q) (halves q n u) u)
+  roomy_halves : (n : ℕ) (u : World) → Visited (machine q) (IsToldAtRest q w) (halves q n u) u → HasRoom u → Visited (machine q) IsRoomy (halves q n u) u × HasRoom (run (machine q) (halves q n u) u)
   roomy_halves zero u rest room = (let before = room.room in omega (arith, before), room)
   roomy_halves (suc n) u rest room =
       let mid : World = run (machine q) (half q u) u in
-      let parts = visited_split q (IsAtRest q w) (half q u) (halves q n mid) u rest in
+      let parts = visited_split q (IsToldAtRest q w) (half q u) (halves q n mid) u rest in
       let a = roomy_half u parts.0 room in
       let b = roomy_halves n mid parts.1 a.1 in
       (visited_join q IsRoomy (half q u) (halves q n mid) u a.0 b.0, subst HasRoom (sym (run_then q (half q u) (halves q n mid) u)) b.1)
 
   -- and behind a half period nothing is in flight
-  empty_halves : (n : ℕ) (u : World) → Visited (machine q) (IsAtRest q w) (halves q (suc n) u) u → HasRoom u → (run (machine q) (halves q (suc n) u) u).flight ≡ []
+  empty_halves : (n : ℕ) (u : World) → Visited (machine q) (IsToldAtRest q w) (halves q (suc n) u) u → HasRoom u → (run (machine q) (halves q (suc n) u) u).flight ≡ []
   empty_halves zero u rest room =
       let mid : World = run (machine q) (half q u) u in
-      let parts = visited_split q (IsAtRest q w) (half q u) (halves q 0 mid) u rest in
+      let parts = visited_split q (IsToldAtRest q w) (half q u) (halves q 0 mid) u rest in
       subst (λ (z : World). z.flight ≡ []) (sym (run_then q (half q u) (halves q 0 mid) u)) (roomy_half u parts.0 room).2
   empty_halves (suc n) u rest room =
       let mid : World = run (machine q) (half q u) u in
-      let parts = visited_split q (IsAtRest q w) (half q u) (halves q (suc n) mid) u rest in
+      let parts = visited_split q (IsToldAtRest q w) (half q u) (halves q (suc n) mid) u rest in
       subst (λ (z : World). z.flight ≡ []) (sym (run_then q (half q u) (halves q (suc n) mid) u)) (empty_halves n mid parts.1 (roomy_half u parts.0 room).1)
 
-  empty_rounds : (n : ℕ) (u : World) → Visited (machine q) (IsAtRest q w) (rounds q n u) u → HasRoom u → u.flight ≡ [] → (run (machine q) (rounds q n u) u).flight ≡ []
+  empty_rounds : (n : ℕ) (u : World) → Visited (machine q) (IsToldAtRest q w) (rounds q n u) u → HasRoom u → u.flight ≡ [] → (run (machine q) (rounds q n u) u).flight ≡ []
   empty_rounds zero u rest room none = none
   empty_rounds (suc n) u rest room none =
       let mid : World = run (machine q) (a_round q u) u in
-      let parts = visited_split q (IsAtRest q w) (a_round q u) (rounds q n mid) u rest in
+      let parts = visited_split q (IsToldAtRest q w) (a_round q u) (rounds q n mid) u rest in
       subst (λ (z : World). z.flight ≡ []) (sym (run_then q (a_round q u) (rounds q n mid) u))
       (empty_rounds n mid parts.1 (roomy_halves 4 u parts.0 room).1 (empty_halves 3 u parts.0 room))
 
-  emptied_rounds : (n : ℕ) (u : World) → Visited (machine q) (IsAtRest q w) (rounds q (suc n) u) u → HasRoom u → (run (machine q) (rounds q (suc n) u) u).flight ≡ []
+  emptied_rounds : (n : ℕ) (u : World) → Visited (machine q) (IsToldAtRest q w) (rounds q (suc n) u) u → HasRoom u → (run (machine q) (rounds q (suc n) u) u).flight ≡ []
   emptied_rounds n u rest room =
       let mid : World = run (machine q) (a_round q u) u in
-      let parts = visited_split q (IsAtRest q w) (a_round q u) (rounds q n mid) u rest in
+      let parts = visited_split q (IsToldAtRest q w) (a_round q u) (rounds q n mid) u rest in
       subst (λ (z : World). z.flight ≡ []) (sym (run_then q (a_round q u) (rounds q n mid) u))
       (empty_rounds n mid parts.1 (roomy_halves 4 u parts.0 room).1 (empty_halves 3 u parts.0 room))
 
-  roomy_rounds : (n : ℕ) (u : World) → Visited (machine q) (IsAtRest q w) (rounds q n u) u → HasRoom u → Visited (machine q) IsRoomy (rounds q n u) u × HasRoom (run (machine q) (rounds q n u) u)
+  roomy_rounds : (n : ℕ) (u : World) → Visited (machine q) (IsToldAtRest q w) (rounds q n u) u → HasRoom u → Visited (machine q) IsRoomy (rounds q n u) u × HasRoom (run (machine q) (rounds q n u) u)
   roomy_rounds zero u rest room = (let before = room.room in omega (arith, before), room)
   roomy_rounds (suc n) u rest room =
       let mid : World = run (machine q) (a_round q u) u in
-      let parts = visited_split q (IsAtRest q w) (a_round q u) (rounds q n mid) u rest in
+      let parts = visited_split q (IsToldAtRest q w) (a_round q u) (rounds q n mid) u rest in
       let a = roomy_halves 4 u parts.0 room in
       let b = roomy_rounds n mid parts.1 a.1 in
       (visited_join q IsRoomy (a_round q u) (rounds q n mid) u a.0 b.0, subst HasRoom (sym (run_then q (a_round q u) (rounds q n mid) u)) b.1)
@@ -193,16 +168,16 @@ module _ (q n : ℕ) (w : World) (rs : List (List Step)) (calm : Rounds (machine
   abbrev u : World
   u = run_rounds (machine q) rs w
 
-  rests : Visited (machine q) (IsAtRest q w) (rounds q n u) u
+  rests : Visited (machine q) (IsToldAtRest q w) (rounds q n u) u
   rests =
       let more = rounds_is_calm q n u in
-      let all = at_rest q w (rs ++ rounds_of q n u) (rounds_join q rs (rounds_of q n u) w calm more.calm) start in
-      subst (λ (z : List Step). Visited (machine q) (IsAtRest q w) z u) (sym more.steps)
-      (visited_rounds q (IsAtRest q w) (rounds_of q n u) u (hold_behind q (IsAtRest q w) (13 * longest w.net + 13) rs (rounds_of q n u) w enough all))
+      let all = told_at_rest q w (rs ++ rounds_of q n u) (rounds_join q rs (rounds_of q n u) w calm more.calm) start in
+      subst (λ (z : List Step). Visited (machine q) (IsToldAtRest q w) z u) (sym more.steps)
+      (visited_rounds q (IsToldAtRest q w) (rounds_of q n u) u (hold_behind q (IsToldAtRest q w) (13 * longest w.net + 13) rs (rounds_of q n u) w enough all))
 
   has_room : HasRoom q w (length u.flight + overhead u.net (locals_of u)) u
   has_room =
-      let same = (visited_start (machine q) (IsAtRest q w) (rounds q n u) u rests).same in
+      let same = (visited_start (machine q) (IsToldAtRest q w) (rounds q n u) u rests).rest.same in
       let is : overhead u.net (locals_of u) ≡ overhead w.net (locals_of w) = (λ j. overhead (same.net j) (same.locals j)) in
       record { only = only; room = omega (arith, is) }
 

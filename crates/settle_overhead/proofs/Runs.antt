@@ -18,8 +18,9 @@ use Rattle.laws_network.proofs.Known.{known_hold}
 use Rattle.laws_network.proofs.Hosts.{each_world_of_a_run_keeps_the_locals}
 use Rattle.settle_network.proofs.RunsSettle.{visited_at}
 use Rattle.settle_network.proofs.Settled.{run_all, run_then}
-use Rattle.settle_overhead.specs.Overhead.{overhead}
-use Rattle.settle_overhead.specs.Roomy.{HasOnlyRefreshes, with_rounds}
+use Rattle.network_overhead.specs.Overhead.{overhead}
+use Rattle.settle_refreshes.specs.Refreshes.{HasOnlyRefreshes}
+use Rattle.settle_overhead.specs.Roomy.{with_rounds}
 use Rattle.settle_overhead.proofs.Rounds.{never_crowded, rounds_are_roomy}
 
 pub append_none : {A : Type 0} (xs : List A) → xs ++ [] ≡ xs

@@ -1,3 +1,2 @@
-pub mod Overhead
 pub mod Roomy
 pub mod Worked

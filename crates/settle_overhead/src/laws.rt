@@ -12,8 +12,9 @@ ghost use Rattle.network_model.specs.Runs.{Plan, first_world, is_crowded_run, st
 ghost use Rattle.network_model.specs.Steps.{Step, machine};
 ghost use Rattle.network_model.specs.Worlds.{World};
 ghost use Rattle.laws_network.specs.Runs.{AreFitSenders, IsFitRun};
-ghost use Rattle.settle_overhead.specs.Overhead.{overhead};
-ghost use Rattle.settle_overhead.specs.Roomy.{HasOnlyRefreshes, with_rounds};
+ghost use Rattle.network_overhead.specs.Overhead.{overhead};
+ghost use Rattle.settle_overhead.specs.Roomy.{with_rounds};
+ghost use Rattle.settle_refreshes.specs.Refreshes.{HasOnlyRefreshes};
 
 /// In a network that has settled, rounds of a script put no more in flight than the network's refresh overhead beside what was there: from
 /// any start, behind 13 H + 13 calm rounds at whose end nothing is in flight but Paths and Resvs that ask for no confirmation, in each

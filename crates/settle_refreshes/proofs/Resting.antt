@@ -109,6 +109,7 @@ module _ (q : ℕ) (w u v : World) (a : IsAtRest q w u) (b : IsAtRest q w v) whe
     net = b.same.net ∙ sym a.same.net;
     trees = b.same.trees ∙ sym a.same.trees;
     senders = λ n. b.same.senders n ∙ sym (a.same.senders n);
+    advertised = λ n. b.same.advertised n ∙ sym (a.same.advertised n);
     locals = b.same.locals ∙ sym a.same.locals;
   }
 
@@ -121,32 +122,32 @@ module _ (q : ℕ) (w u v : World) (a : IsAtRest q w u) (b : IsAtRest q w v) whe
 
     module _ (at' : slice_get v.nodes n ≡ Some g) where
       -- the node knows whom it knew
-      knows : (s : Session) (x : Sender) → has (known f s) x ≡ true → has (known g s) x ≡ true
+      pub knows : (s : Session) (x : Sender) → has (known f s) x ≡ true → has (known g s) x ≡ true
       knows s x e =
           let r = ((previous_hops_are_all_hops u (ready q w u a).bounds.net (ready q w u a).locals (ready q w u a).sound (ready q w u a).complete).known n f s x at).0 e in
           ((previous_hops_are_all_hops v (ready q w v b).bounds.net (ready q w v b).locals (ready q w v b).sound (ready q w v b).complete).known n g s x at').1
           (subst (λ (z : Net × Locals). In x (live z.1 s) × Reaches z.0 n s.group x.addr) (λ j. (sym same_net.net j, sym same_net.locals j)) r)
 
       -- and offers what it offered
-      offers_on : (h : Facts) (k : OfferKey) → is_way p k ≡ true → has (known h k.session) k.sender ≡ true → has (offers p h) k ≡ true
+      pub offers_on : (h : Facts) (k : OfferKey) → is_way p k ≡ true → has (known h k.session) k.sender ≡ true → has (offers p h) k ≡ true
       offers_on h k way e =
           ap (λ (z : Option Offer). is_some z) (offers_by_way p h k) ∙ ap (λ (z : Bool). is_some (cond z (offer_at h k) None)) way ∙ offered_is_known h k ∙ e
 
-      still_offered : (k : OfferKey) → has (offers p f) k ≡ true → has (offers p g) k ≡ true
+      pub still_offered : (k : OfferKey) → has (offers p f) k ≡ true → has (offers p g) k ≡ true
       still_offered k e =
           let y = has_some (get (offers p f) k) e in
           let o = offered p f k y.0 y.1 in
           offers_on g k o.way (knows k.session k.sender o.known_one)
 
       -- what goes toward a previous hop is what went
-      toward_now : (l : Lane) (h : LinkHop) → IsPrevious u.net n l.session l.hop h → toward p (after p c i f) l ≡ want l.style u.net (locals_of u) l.session h
+      pub toward_now : (l : Lane) (h : LinkHop) → IsPrevious u.net n l.session l.hop h → toward p (after p c i f) l ≡ want l.style u.net (locals_of u) l.session h
       toward_now l h is =
           sym (rule_in_parts.toward_same p p c i f l)
           ∙ subst (λ (z : (Net × List (Addr × Addr)) × Locals). toward (config_of q z.0.0 z.0.1 n) g l ≡ want l.style z.0.0 z.1 l.session h)
           (λ j. ((same_net.net j, same_net.trees j), same_net.locals j))
           (toward_is q w v b n g l h at' (subst (λ (z : Net). IsPrevious z n l.session l.hop h) (sym same_net.net) is))
 
-      same_toward : (l : Lane) (h : LinkHop) → IsPrevious u.net n l.session l.hop h → toward p f l ≡ toward p (after p c i f) l
+      pub same_toward : (l : Lane) (h : LinkHop) → IsPrevious u.net n l.session l.hop h → toward p f l ≡ toward p (after p c i f) l
       same_toward l h is = toward_is q w u a n f l h at is ∙ sym (toward_now l h is)
 
       pub unmoved : IsUnmoved p c i f

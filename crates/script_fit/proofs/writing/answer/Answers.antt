@@ -1,10 +1,10 @@
-use Rattle.std.proofs.Common.{List, ℕ, sym, subst}
+use Rattle.std.proofs.Common.{Bool, List, ℕ, sym, subst}
 use Rattle.script_demand.proofs.Answering.{written_quiet, written_so}
 use Rattle.script_demand.proofs.Coming.{stopped_bad, stopped_script}
 use Rattle.script_grammar.specs.Grammar.{IsBadLine}
 use Rattle.script_run.specs.Endings.{IsOrNoMemory}
 use Rattle.script_run.specs.declared.ending.Ending.TheVariants.{BadLine, Done}
-use Rattle.script_fit.specs.Findings.{IsFindingsOf, IsSaidOf}
+use Rattle.script_fit.specs.Findings.{IsSaidOf}
 use Rattle.script_fit.proofs.Coming.{found_or_bad}
 use Rattle.script_fit.proofs.writing.answer.Goals as goal
 
@@ -13,10 +13,10 @@ returns-in-Ok-clause-found g c =
     let input = c.args.input.now in
     let w = c.say.ensures in
     written_so (IsSaidOf c.say.result.said) IsBadLine c.say.result.ending input c.as_slice.result.now (g.K.Sink.holds c.args.sink.now) (g.K.Sink.holds c.say.new.sink)
-    (record { found = subst (λ (t : List ℕ). IsFindingsOf input t) (sym c.as_slice.ensures.value) c.in-Ok.ensures.found; told = w.said }) w.others w.done w.front
+    (subst (λ (b : Bool). IsSaidOf b input c.as_slice.result.now) (sym w.said) (subst (λ (t : List ℕ). IsSaidOf c.in-Ok.saying.said input t) (sym c.as_slice.ensures.value) c.in-Ok.ensures.found)) w.others w.done w.front
 
 pub returns-in-Ok-clause-refused : goal.returns-in-Ok-clause-refused
-returns-in-Ok-clause-refused g c = λ number why bad. absurd (found_or_bad c.args.input.now c.in-Ok.text.items number why c.in-Ok.ensures.found bad)
+returns-in-Ok-clause-refused g c = λ number why bad. absurd (found_or_bad c.args.input.now c.in-Ok.saying.text.items number why c.in-Ok.ensures.found.found bad)
 
 pub returns-in-Ok-clause-advised : goal.returns-in-Ok-clause-advised
 returns-in-Ok-clause-advised g c = written_quiet c.say.result.ending c.args.input.now c.findings_of.new.advice.items c.say.ensures.others c.in-Ok.ensures.quiet

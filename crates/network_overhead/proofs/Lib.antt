@@ -1,0 +1,5 @@
+pub mod Sums
+pub mod Bounds
+pub mod Senders
+pub mod Lanes
+pub mod Counted

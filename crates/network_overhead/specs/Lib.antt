@@ -1,0 +1,2 @@
+pub mod Overhead
+pub mod Counts
