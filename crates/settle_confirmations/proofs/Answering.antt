@@ -69,7 +69,7 @@ use Rattle.settle_confirmations.proofs.Keeping.{comes_over, covers, elsewhere, f
 use Rattle.settle_confirmations.proofs.Moving.{IsAsking, IsConf, IsDown, IsNext, IsTakenAt, IsUp, arrived_mark, goes_down, leads_next, listed_one, one_listed, only', r', taken_at}
 use Rattle.settle_confirmations.proofs.Taken.{IsAnswer, IsPassedOn, answered_or_on, asked, change, sent_kind, some_unit}
 
-some_row : (t : PartTable) → (t ≡ empty → ⊥) → (k : UnitOf) × (w : Part) × (get t k ≡ Some w)
+pub some_row : (t : PartTable) → (t ≡ empty → ⊥) → (k : UnitOf) × (w : Part) × (get t k ≡ Some w)
 some_row t some = by t.rows refl
   where
     by : (rows : List (UnitOf × Part)) → t.rows ≡ rows → (k : UnitOf) × (w : Part) × (get t k ≡ Some w)

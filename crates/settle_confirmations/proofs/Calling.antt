@@ -18,7 +18,7 @@ use Rattle.rsvp_base.specs.Table.{Table, empty, get, has, keys}
 use Rattle.rsvp_base.specs.TokenBucket.{IsSound, TokenBucket}
 use Rattle.rsvp_base.proofs.Members.{in_append, in_each, in_right, to_each}
 use Rattle.rsvp_base.proofs.SetLaws.{and_both, has-cut}
-use Rattle.rsvp_base.proofs.Tables.{either, tied_same}
+use Rattle.rsvp_base.proofs.Tables.{either, same_table, tied_same}
 use Rattle.rsvp_messages.specs.declared.message.Message.TheVariants as message
 use Rattle.rsvp_messages.specs.declared.message.ResvMsg.{ResvMsg}
 use Rattle.rsvp_messages.specs.Units.{AskedUnit, ask_style, asked_units, only}
@@ -26,13 +26,11 @@ use Rattle.style_rules.specs.CutLaws.{cut_monotone, cut_of, made_named, made_of,
 use Rattle.style_rules.specs.FlowOrder.{IsAtMost, flow_le}
 use Rattle.style_rules.specs.Lines.{LineKey}
 use Rattle.style_rules.specs.Merge.{PartTable}
-use Rattle.style_rules.specs.PartLaws.{part_at_most_itself}
 use Rattle.style_rules.specs.Parts.{IsPartAtMost, has_name}
-use Rattle.style_rules.specs.Toward.{Request, parts_of}
-use Rattle.style_rules.proofs.Merges.{merges_same}
+use Rattle.style_rules.specs.Toward.{Request}
 use Rattle.style_rules.proofs.StyleLaws.{common_unit, within_unit}
 use Rattle.style_rules.proofs.Told.{at_most_tested, at_most_told}
-use Rattle.style_rules.proofs.Towards.{open_below, toward_open, toward_source, toward_there}
+use Rattle.style_rules.proofs.Towards.{open_below, toward_source, toward_there}
 use Rattle.calm_rounds.specs.Machine.{Happens}
 use Rattle.laws_inputs.specs.FactLaws.{ComesBy, IsResvRequest, IsWantRequest}
 use Rattle.laws_inputs.specs.SendLaws.{ArePartsOf, IsAskedOf, IsConf, IsError, IsPath, IsPathTear, IsResv, IsResvTear}
@@ -71,7 +69,7 @@ use Rattle.tree_model.proofs.Ifaces.{interfaces_are_ends}
 use Rattle.tree_model.proofs.TreeLaws.{one}
 use Rattle.network_model.specs.Bounds.{IsStart}
 use Rattle.network_model.specs.Events.{passes}
-use Rattle.network_model.specs.Locals.{locals_of}
+use Rattle.network_model.specs.Locals.{IsLive, locals_of}
 use Rattle.network_model.specs.Steps.{At, machine, ms_of, outcome, sent, still}
 use Rattle.network_model.specs.Worlds.{Item, World, config_of}
 use Rattle.network_model.proofs.Changing.{what_is_sent_is_copied}
@@ -91,6 +89,7 @@ use Rattle.settle_passes.proofs.Calls.{IsCalled, called, called_there}
 use Rattle.settle_passes.proofs.Serving.{settled_is_reserved}
 use Rattle.settle_passes.proofs.Wanting.{a_receiver_is_set_up}
 use Rattle.settle_confirmations.specs.Requests.{IsAnswered, IsConfirmed, IsForAtLeast, IsOnlySender, IsRequest, arrival_units}
+use Rattle.settle_confirmations.proofs.Arriving.{same_at}
 use Rattle.settle_confirmations.proofs.Holding.{what_is_confirmed_is_held as requests_are_held}
 use Rattle.settle_confirmations.proofs.Moving.{listed_one}
 use Rattle.settle_confirmations.proofs.Passing.{requests_are_answered}
@@ -170,22 +169,22 @@ module _ (q n : ℕ) (s : Session) (st : StyleKind) (names : Names) (flow : Toke
   c = w.clock + ms_of (At n call)
 
   module _ (f : Facts) (at : slice_get w.nodes n ≡ Some f) where
-    abbrev after : Facts
+    abbrev pub after : Facts
     after = settled p c f (act p c (Call call) f).facts
 
-    abbrev g : Facts
+    abbrev pub g : Facts
     g = (outcome q (At n call) w n f).facts
 
-    at_then : slice_get then.nodes n ≡ Some g
+    pub at_then : slice_get then.nodes n ≡ Some g
     at_then = facts_after_made q (At n call) w n f at
 
-    facts_are : g ≡ facts_then p p c (Call call) f
+    pub facts_are : g ≡ facts_then p p c (Call call) f
     facts_are = ap (λ (o : Outcome). o.facts) (called_there q w n call f)
 
     resvs_same : after.resvs ≡ f.resvs
     resvs_same = left_as_it_was.resvs_whole (node_step p p w.clock c (Call call) f) ((r s).paths.bounds.facts n f at) refl refl refl
 
-    resv_same : (k : StyleKind) (key : LineKey) → get (resvs_of k after) key ≡ get (resvs_of k f) key
+    pub resv_same : (k : StyleKind) (key : LineKey) → get (resvs_of k after) key ≡ get (resvs_of k f) key
     resv_same k key = ap (λ (ts : ResvTables). get (table_of k ts) key) resvs_same
 
     -- ---- wants
@@ -250,52 +249,119 @@ module _ (q n : ℕ) (s : Session) (st : StyleKind) (names : Names) (flow : Toke
           (requests_and_toward.each p after l a).1
           (inl (record { key = z.key; resv = z.resv; there = resv_same l.style (l.session, z.key) ∙ z.there; part = z.part; blockaded = z.blockaded }))
 
+      resv_back : (a : Request) → IsResvRequest p after l a → In a (requests p f l)
+      resv_back a z =
+          (requests_and_toward.each p f l a).1
+          (inl (record { key = z.key; resv = z.resv; there = sym (resv_same l.style (l.session, z.key)) ∙ z.there; part = z.part; blockaded = z.blockaded }))
+
+      want_back : (a : Request) (z : IsWantRequest after l a) → get f.wants (l.session, z.unit) ≡ Some z.want → In a (requests p f l)
+      want_back a z there =
+          (requests_and_toward.each p f l a).1 (inr (record { unit = z.unit; want = z.want; there = there; style = z.style; part = z.part; blockaded = z.blockaded }))
+
+      -- a request is of the unit of its want
+      old_unit : (a : Request) (z : IsWantRequest f l a) → part_unit l.style a.part ≡ z.unit
+      old_unit a z =
+          let old_shape : IsWantShape l.style z.unit z.want.part =
+          subst (λ (k : StyleKind). IsWantShape k z.unit z.want.part) z.style ((((r s).paths.bounds.facts n f at).shapes.wants (l.session, z.unit) z.want z.there).shape) in
+          want_unit l.style (names_via f l) z.unit z.want.part a.part old_shape z.part
+
+      new_unit : (a : Request) (z : IsWantRequest after l a) → part_unit l.style a.part ≡ z.unit
+      new_unit a z =
+          let new_shape : IsWantShape l.style z.unit z.want.part = subst (λ (k : StyleKind). IsWantShape k z.unit z.want.part) z.style (shape (l.session, z.unit) z.want z.there) in
+          want_unit l.style (names_via after l) z.unit z.want.part a.part new_shape z.part
+
       same_want : (a : Request) (z : IsWantRequest f l a) → get after.wants (l.session, z.unit) ≡ Some z.want → In a (requests p after l)
       same_want a z there =
           (requests_and_toward.each p after l a).1 (inr (record { unit = z.unit; want = z.want; there = there; style = z.style; part = z.part; blockaded = z.blockaded }))
 
-      -- what goes there is the same where no new want takes part
+      -- what goes there for a unit is the same where its want is
+      same_want_same : (un : UnitOf) → get f.wants (l.session, un) ≡ get after.wants (l.session, un) → get (toward p f l) un ≡ get (toward p after l) un
+      same_want_same un same =
+          same_at l.style un (requests p f l) (requests p after l) (unmarked p f l none) (unmarked p after l none)
+          (λ a is. ⊎_elim (λ (z : IsResvRequest p f l a). kept_request a z)
+          (λ (z : IsWantRequest f l a).
+          let unit : un ≡ z.unit = is.unit ∙ old_unit a z in
+          same_want a z ((λ j. get after.wants (l.session, sym unit j)) ∙ sym same ∙ (λ j. get f.wants (l.session, unit j)) ∙ z.there)) ((requests_and_toward.each p f l a).0 is.among))
+          (λ a is. ⊎_elim (λ (z : IsResvRequest p after l a). resv_back a z)
+          (λ (z : IsWantRequest after l a).
+          let unit : un ≡ z.unit = is.unit ∙ new_unit a z in
+          want_back a z ((λ j. get f.wants (l.session, sym unit j)) ∙ same ∙ (λ j. get after.wants (l.session, unit j)) ∙ z.there)) ((requests_and_toward.each p after l a).0 is.among))
+
+      -- or no new want of it takes part
+      same_unit : (un : UnitOf)
+          → ((y : Want) (v : Part) → In ((l.session, un), y) (wanted s st names flow true) → get after.wants (l.session, un) ≡ Some y → y.style ≡ l.style
+          → want_part l.style (names_via after l) y.part ≡ Some v → ⊥) → get (toward p f l) un ≡ get (toward p after l) un
+      same_unit un bad =
+          same_at l.style un (requests p f l) (requests p after l) (unmarked p f l none) (unmarked p after l none)
+          (λ a is. ⊎_elim (λ (z : IsResvRequest p f l a). kept_request a z)
+          (λ (z : IsWantRequest f l a).
+          ⊎_elim (λ (there : get after.wants (l.session, z.unit) ≡ Some z.want). same_want a z there)
+          (λ (y : IsReplaced (l.session, z.unit) z.want).
+          let unit : z.unit ≡ un = sym (is.unit ∙ old_unit a z) in
+          let v = part_grows l.style (names_via f l) z.want.part y.want.part a.part y.part z.part in
+          absurd (bad y.want v.0 (subst (λ (k : UnitOf). In ((l.session, k), y.want) (wanted s st names flow true)) unit y.new)
+          ((λ j. get after.wants (l.session, sym unit j)) ∙ y.there) (y.style ∙ z.style) v.1))
+          (stays (l.session, z.unit) z.want z.there)) ((requests_and_toward.each p f l a).0 is.among))
+          (λ a is. ⊎_elim (λ (z : IsResvRequest p after l a). resv_back a z)
+          (λ (z : IsWantRequest after l a).
+          let unit : z.unit ≡ un = sym (is.unit ∙ new_unit a z) in
+          ⊎_elim (λ (old : get f.wants (l.session, z.unit) ≡ Some z.want). want_back a z old)
+          (λ (new : In ((l.session, z.unit), z.want) (wanted s st names flow true)).
+          absurd (bad z.want a.part (subst (λ (k : UnitOf). In ((l.session, k), z.want) (wanted s st names flow true)) unit new)
+          ((λ j. get after.wants (l.session, sym unit j)) ∙ z.there) z.style z.part))
+          (source (l.session, z.unit) z.want z.there)) ((requests_and_toward.each p after l a).0 is.among))
+
+      -- so all that goes there is the same where no new want takes part
       same_toward : ((u : UnitOf) (y : Want) (v : Part) → In ((l.session, u), y) (wanted s st names flow true) → get after.wants (l.session, u) ≡ Some y → y.style ≡ l.style
           → want_part l.style (names_via after l) y.part ≡ Some v → ⊥) → toward p f l ≡ toward p after l
-      same_toward bad =
-          toward_open l.style (requests p f l) (unmarked p f l none)
-          ∙ merges_same units (part_unit l.style) (λ (z : Part). z) (part_unit l.style) (λ (z : Part). z) (parts_of (requests p f l)) (parts_of (requests p after l)) under over
-          ∙ sym (toward_open l.style (requests p after l) (unmarked p after l none))
+      same_toward bad = same_table units (toward p f l) (toward p after l) (λ un. same_unit un (λ y v new there style part. bad un y v new there style part))
+
+      -- a new want of the unit takes part
+      pub record IsAskedUnit (un : UnitOf) : Type 0 where
+        pub want : Want
+        pub part : Part
+        pub new : In ((l.session, un), want) (wanted s st names flow true)
+        pub there : get after.wants (l.session, un) ≡ Some want
+        pub style : want.style ≡ l.style
+        pub takes : want_part l.style (names_via after l) want.part ≡ Some part
+
+      pub asked_or_same : (un : UnitOf) → IsAskedUnit un ⊎ (get (toward p f l) un ≡ get (toward p after l) un)
+      asked_or_same un = by (get after.wants (l.session, un)) refl
         where
-          there_too : (a : Request) → In a (requests p f l) → In a (requests p after l)
-          there_too a i =
-              ⊎_elim (λ (z : IsResvRequest p f l a). kept_request a z)
-              (λ (z : IsWantRequest f l a).
-              ⊎_elim (λ (same : get after.wants (l.session, z.unit) ≡ Some z.want). same_want a z same)
-              (λ (y : IsReplaced (l.session, z.unit) z.want).
-              let v = part_grows l.style (names_via f l) z.want.part y.want.part a.part y.part z.part in
-              absurd (bad z.unit y.want v.0 y.new y.there (y.style ∙ z.style) v.1))
-              (stays (l.session, z.unit) z.want z.there))
-              ((requests_and_toward.each p f l a).0 i)
+          by_part : (y : Want) → get after.wants (l.session, un) ≡ Some y → In ((l.session, un), y) (wanted s st names flow true) → y.style ≡ l.style → (o : Option Part)
+              → want_part l.style (names_via after l) y.part ≡ o → IsAskedUnit un ⊎ (get (toward p f l) un ≡ get (toward p after l) un)
+          by_part y there new style (Some v) takes = inl (record { want = y; part = v; new = new; there = there; style = style; takes = takes })
+          by_part y there new style None nothing =
+              inr (same_unit un (λ z v also there' style' part.
+              let is : z ≡ y = of_some z y (sym there' ∙ there) in
+              let bad : None ≡ Some v = sym nothing ∙ ap (λ (w : Want). want_part l.style (names_via after l) w.part) (sym is) ∙ part in
+              cc))
 
-          and_back : (a : Request) → In a (requests p after l) → In a (requests p f l)
-          and_back a i =
-              ⊎_elim
-              (λ (z : IsResvRequest p after l a).
-              (requests_and_toward.each p f l a).1
-              (inl (record { key = z.key; resv = z.resv; there = sym (resv_same l.style (l.session, z.key)) ∙ z.there; part = z.part; blockaded = z.blockaded })))
-              (λ (z : IsWantRequest after l a).
-              ⊎_elim
-              (λ (old : get f.wants (l.session, z.unit) ≡ Some z.want).
-              (requests_and_toward.each p f l a).1 (inr (record { unit = z.unit; want = z.want; there = old; style = z.style; part = z.part; blockaded = z.blockaded })))
-              (λ (new : In ((l.session, z.unit), z.want) (wanted s st names flow true)). absurd (bad z.unit z.want a.part new z.there z.style z.part))
-              (source (l.session, z.unit) z.want z.there))
-              ((requests_and_toward.each p after l a).0 i)
+          by : (o : Option Want) → get after.wants (l.session, un) ≡ o → IsAskedUnit un ⊎ (get (toward p f l) un ≡ get (toward p after l) un)
+          by None nothing = inr (same_unit un (λ z v new there style part. let bad : None ≡ Some z = sym nothing ∙ there in cc))
+          by (Some y) there =
+              ⊎_elim (λ (old : get f.wants (l.session, un) ≡ Some y). inr (same_want_same un (old ∙ sym there)))
+              (λ (new : In ((l.session, un), y) (wanted s st names flow true)).
+              either (eq_by_cmp styles.cmp y.style l.style) (λ tied. by_part y there new (tied_same styles y.style l.style tied) (want_part l.style (names_via after l) y.part) refl)
+              (λ apart. inr (same_unit un (λ z v also there' style part.
+              let is : z ≡ y = of_some z y (sym there' ∙ there) in
+              let bad : true ≡ false = sym (ties styles y.style l.style (ap (λ (w : Want). w.style) (sym is) ∙ style)) ∙ apart in
+              cc))))
+              (source (l.session, un) y there)
 
-          under : (v : Part) → In v (parts_of (requests p f l)) → has_name v ≡ true → (y : Part) × In y (parts_of (requests p after l)) × (part_unit l.style v ≡ part_unit l.style y) × IsPartAtMost v y
-          under v i named =
-              let a = in_each (λ (z : Request). z.part) v (requests p f l) i in
-              (v, subst (λ (z : Part). In z (parts_of (requests p after l))) (sym a.2) (to_each (λ (z : Request). z.part) a.0 (requests p after l) (there_too a.0 a.1)), refl, part_at_most_itself v)
-
-          over : (v : Part) → In v (parts_of (requests p after l)) → has_name v ≡ true → (y : Part) × In y (parts_of (requests p f l)) × (part_unit l.style v ≡ part_unit l.style y) × IsPartAtMost v y
-          over v i named =
-              let a = in_each (λ (z : Request). z.part) v (requests p after l) i in
-              (v, subst (λ (z : Part). In z (parts_of (requests p f l))) (sym a.2) (to_each (λ (z : Request). z.part) a.0 (requests p f l) (and_back a.0 a.1)), refl, part_at_most_itself v)
+      -- and what goes there for the unit is no less than the call
+      pub covers_unit : (un : UnitOf) → IsAskedUnit un → (t : Part) → get (toward p after l) un ≡ Some t → IsAtMost flow t.flow
+      covers_unit un k t goes =
+          let a : Request = record { part = k.part; blockaded = is_blockaded l.style f.walls l k.part } in
+          let z : IsWantRequest after l a = record { unit = un; want = k.want; there = k.there; style = k.style; part = k.takes; blockaded = refl } in
+          let among : In a (requests p after l) = (requests_and_toward.each p after l a).1 (inr z) in
+          let below = open_below l.style (requests p after l) un t a
+          (record {
+            request = record { among = among; named = part_named l.style (names_via after l) k.want.part k.part k.takes; unit = sym (new_unit a z) };
+            unmarked = unmarked p after l none a among;
+          }) goes in
+          let is : k.part.flow ≡ flow = part_flow l.style (names_via after l) k.want.part k.part k.takes ∙ wanted_flow s st names flow true (l.session, un) k.want k.new in
+          subst (λ (w : TokenBucket). IsAtMost w t.flow) is below.flow
 
       -- a new want that takes part is marked
       marked : (u : UnitOf) (y : Want) (v : Part) → In ((l.session, u), y) (wanted s st names flow true) → get after.wants (l.session, u) ≡ Some y → y.style ≡ l.style
@@ -354,7 +420,7 @@ module _ (q n : ℕ) (s : Session) (st : StyleKind) (names : Names) (flow : Toke
           cc))))
 
       -- and no unit that went there does so no more
-      goes_on_to : (un : UnitOf) → has (toward p f l) un ≡ true → has (toward p after l) un ≡ true
+      pub goes_on_to : (un : UnitOf) → has (toward p f l) un ≡ true → has (toward p after l) un ≡ true
       goes_on_to un h =
           let o = toward_source l.style (requests p f l) un h in
           let a : Request = o.0 in
@@ -382,10 +448,11 @@ module _ (q n : ℕ) (s : Session) (st : StyleKind) (names : Names) (flow : Toke
     change = act p c (Call call) f
 
     same_offers : offers p f ≡ offers p after
-    same_offers = λ j. offers p (record f { senders = sym (unless_same (call_refusal p call f) f.senders) j })
+    same_offers = λ j. offers p (record f { senders = sym (unless_same (call_refusal p call f) f.senders) j; advertised = sym (unless_same (call_refusal p call f) f.advertised) j })
 
     pub record IsAskedNow (z : Send) : Type 0 where
       pub lane : Lane
+      pub dst : z.dst ≡ lane.hop.1
       pub there : (y : Sender) × ComesBy after lane.session lane.hop y
       pub session : lane.session ≡ s
       pub resv : ResvMsg
@@ -408,6 +475,7 @@ module _ (q n : ℕ) (s : Session) (st : StyleKind) (names : Names) (flow : Toke
         let is : z ≡ resv_send p after x.lane (Some (own p x.lane.hop.0)) false x.ask = x.is ∙ ap (λ (o : Option Addr). resv_send p after x.lane o false x.ask) wish in
         record {
           lane = x.lane;
+          dst = ap (λ (o : Send). o.dst) is;
           there = (known_and_via.lanes_by after x.lane).0 x.there;
           session = d.session;
           resv = _;
@@ -442,19 +510,22 @@ module _ (q n : ℕ) (s : Session) (st : StyleKind) (names : Names) (flow : Toke
         (λ (x : IsResv p p f after change z). asked_now z x) k) k) k) k)
         (send_told p p c (Call call) f z i)
 
+  -- ---- nobody begins to send
+  senders_same : (m : ℕ) (f : Facts) → (outcome q (At n call) w m f).facts.senders ≡ f.senders
+  senders_same m f =
+      ⊎_elim (λ (h : outcome q (At n call) w m f ≡ still f). ap (λ (o : Outcome). o.facts.senders) h)
+      (λ (h : IsCalled q w n call m f). ap (λ (o : Outcome). o.facts.senders) h.is ∙ unless_same (call_refusal (config_of q w.net w.trees m) call f) f.senders) (called q w n call m f)
+
+  pub live_before : (y : Sender) (t : TokenBucket) → IsLive then (s, y) t → IsLive w (s, y) t
+  live_before y t l =
+      let g = senders_found then l.node l.senders l.at in
+      let f = facts_after_found q (At n call) w l.node g.0 g.1 in
+      is_live w l.node f.0 (s, y) t f.1 (ap (λ (z : Table sender_keys TokenBucket). get z (s, y)) (sym (senders_same l.node f.0) ∙ ap (λ (z : Facts). z.senders) (sym f.2) ∙ g.2) ∙ l.sends)
+
   -- ---- at the end by which the path of the only sender comes
   module _ (x : Sender) (only_one : IsOnlySender w s x) where
-    senders_same : (m : ℕ) (f : Facts) → (outcome q (At n call) w m f).facts.senders ≡ f.senders
-    senders_same m f =
-        ⊎_elim (λ (h : outcome q (At n call) w m f ≡ still f). ap (λ (o : Outcome). o.facts.senders) h)
-        (λ (h : IsCalled q w n call m f). ap (λ (o : Outcome). o.facts.senders) h.is ∙ unless_same (call_refusal (config_of q w.net w.trees m) call f) f.senders) (called q w n call m f)
-
     pub only_then : IsOnlySender then s x
-    only_then y t l =
-        let g = senders_found then l.node l.senders l.at in
-        let f = facts_after_found q (At n call) w l.node g.0 g.1 in
-        only_one y t
-        (is_live w l.node f.0 (s, y) t f.1 (ap (λ (z : Table sender_keys TokenBucket). get z (s, y)) (sym (senders_same l.node f.0) ∙ ap (λ (z : Facts). z.senders) (sym f.2) ∙ g.2) ∙ l.sends))
+    only_then y t l = only_one y t (live_before y t l)
 
     pub record IsRequestThere (z : Item) : Type 0 where
       pub hop : LinkHop

@@ -67,9 +67,10 @@ use Rattle.settle_confirmations.specs.Requests.{IsAnswered, IsConfirmed, IsForAt
 use Rattle.settle_confirmations.proofs.Answering.{GoesOnThere, IsAnsweredThere, IsOnward, new_item, up_moves}
 use Rattle.settle_confirmations.proofs.Keeping.{nobody}
 use Rattle.settle_confirmations.proofs.Moving.{IsAsking, IsConf, IsDown, IsUp, down_next, in_tree, listed_one}
-use Rattle.settle_confirmations.proofs.Passing.{Answers, all_asking, answered_in, begins, happens_first, happens_so, happens_then, ranks_down}
+use Rattle.settle_confirmations.proofs.Passing.{Answers, all_asking, answered_in, begins, ranks_down}
 use Rattle.settle_confirmations.proofs.Returning.{GoesDown, asking_next, conf_item, conf_keeps, down_moves}
 use Rattle.settle_confirmations.proofs.Taken.{some_unit}
+use Rattle.settle_confirmations.proofs.Waiting.{happens_first, happens_so, happens_then}
 
 -- ---- what is wanted of the sender over the hops of a way
 record IsWantedOver (st : StyleKind) (net : Net) (l : Locals) (s : Session) (x : Sender) (flow : TokenBucket) (h : LinkHop) : Type 0 where
@@ -149,7 +150,7 @@ module _ (q : ℕ) (s : Session) (st : StyleKind) (x : Sender) (flow : TokenBuck
       (λ (h : outcome q (Deliver 0) u c.node c.facts ≡ still c.facts). absurd (subst (λ (w : Outcome). In c.send w.sent) h c.sent))
       (λ (t : Turns q (Deliver 0) u c.node c.facts).
       let d = came_by_delivery q 0 u a.reserving.paths.bounds c.node t.input t.came in
-      conf_item q s st x e u a d.item d.arrives (confs d.item (in_arrived (Deliver 0) u d.item d.arrives)) z b sends)
+      conf_item q s u a.reserving d.item d.arrives (confs d.item (in_arrived (Deliver 0) u d.item d.arrives)) z b sends)
       (turns q s u a.reserving c.node c.facts c.there)
 
   -- ---- where ResvConfs alone are in flight, all stays as it is
@@ -176,7 +177,7 @@ module _ (q : ℕ) (s : Session) (st : StyleKind) (x : Sender) (flow : TokenBuck
   exact_back u k c exact st' h there =
       let ex : IsExact st' (step q (Deliver 0) u) c h = exact st' h there in
       let f = facts_after_found q (Deliver 0) u (node_of u.net.ends h.from) ex.facts ex.node in
-      let same : ex.facts ≡ f.0 = f.2 ∙ conf_keeps q s st x e u k.asking k.confs (node_of u.net.ends h.from) f.0 f.1 in
+      let same : ex.facts ≡ f.0 = f.2 ∙ conf_keeps q s u k.asking.reserving k.confs (node_of u.net.ends h.from) f.0 f.1 in
       let locals = same_locals u k.asking in
       record {
         facts = f.0;
@@ -257,7 +258,7 @@ module _ (q : ℕ) (s : Session) (st : StyleKind) (x : Sender) (flow : TokenBuck
           (λ (v : IsUp u s st x e d.item).
           ⊎_elim (λ (o : IsConf z). absurd (no_conf z m says o)) (λ (o : IsOnward q s st x e u k.asking d.item d.arrives v z). o.least flow (k.least d.item v.resv flies v.says))
           (new_item q s st x e u k.asking d.item d.arrives v z b sends))
-          (λ (o : IsConf d.item). absurd (no_conf z m says (conf_item q s st x e u k.asking d.item d.arrives o z b sends)))
+          (λ (o : IsConf d.item). absurd (no_conf z m says (conf_item q s u k.asking.reserving d.item d.arrives o z b sends)))
           (k.asking.each d.item flies))
           (turns q s u k.asking.reserving c.node c.facts c.there)
 

@@ -1,9 +1,17 @@
 pub mod Taken
+pub mod Waiting
+pub mod Arriving
 pub mod Moving
+pub mod Leading
+pub mod Saying
 pub mod Keeping
 pub mod Answering
 pub mod Returning
+pub mod Onward
+pub mod Choosing
 pub mod Passing
 pub mod Holding
 pub mod Calling
+pub mod Filtering
+pub mod Filtered
 pub mod Worked

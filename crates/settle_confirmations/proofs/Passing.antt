@@ -1,64 +1,37 @@
 -- A request is answered: by passes, one hop each, up and down again.
-use Rattle.std.proofs.Common.{◌≡◌, ℕ, zero, suc, ◌+◌, ◌*◌, ◌<◌, ◌≤◌, List, [], ◌∷◌, ◌++◌, length, Bool, Some, ◌⊎◌, inl, inr, ⊎_elim, arith, sym, refl, ap, subst, ◌∙◌}
-use Rattle.std.specs.Prelude.{slice_get, take, map as each}
-use Rattle.std.specs.List.{remove, repeat}
+use Rattle.std.proofs.Common.{◌≡◌, ℕ, suc, ◌+◌, ◌*◌, ◌<◌, ◌≤◌, [], length, Some, ◌⊎◌, inl, inr, ⊎_elim, arith, sym, ap, subst, ◌∙◌}
+use Rattle.std.specs.Prelude.{slice_get}
 use Rattle.rsvp_base.specs.declared.session.Sender.{Sender}
 use Rattle.rsvp_base.specs.declared.session.Session.{Session}
 use Rattle.rsvp_base.specs.declared.style.StyleKind.{StyleKind}
 use Rattle.rsvp_base.specs.Members.{In}
 use Rattle.rsvp_base.specs.TokenBucket.{TokenBucket}
-use Rattle.rsvp_base.proofs.Members.{in_left}
 use Rattle.rsvp_messages.specs.Proper.{IsProperAsk}
 use Rattle.rsvp_messages.specs.Units.{ask_style}
-use Rattle.calm_rounds.specs.Machine.{Happens, run}
+use Rattle.calm_rounds.specs.Machine.{Happens}
 use Rattle.router_rules.specs.Inputs.{Arrival}
 use Rattle.tree_model.specs.Ranks.{longest, rank}
 use Rattle.tree_model.specs.Trees.{tree}
 use Rattle.tree_model.proofs.Following.{tree_group}
 use Rattle.tree_model.proofs.RankLaws.{rank_falls}
 use Rattle.network_model.specs.Bounds.{IsProperArrival}
-use Rattle.network_model.specs.Events.{pass, passes}
-use Rattle.network_model.specs.Steps.{Deliver, Step, machine, rest, sent, step}
+use Rattle.network_model.specs.Events.{passes}
+use Rattle.network_model.specs.Steps.{Deliver, Step, machine, step}
 use Rattle.network_model.specs.Worlds.{Item, World}
 use Rattle.settle_paths.proofs.PreviousHops.{ends_there, same_by_addr}
 use Rattle.settle_passes.specs.Reserving.{IsReserving}
-use Rattle.settle_passes.proofs.Deliveries.{now_or_later}
-use Rattle.settle_passes.proofs.Spreading.{in_take}
 use Rattle.settle_confirmations.specs.Requests.{IsAnswered, IsForAtLeast, IsOnlySender, IsRequest, arrival_units}
 use Rattle.settle_confirmations.proofs.Answering.{GoesOnThere, IsAnsweredThere, up_moves}
 use Rattle.settle_confirmations.proofs.Moving.{IsAsking, IsDown, IsUp, down_next, in_tree, up_next}
 use Rattle.settle_confirmations.proofs.Returning.{GoesDown, asking_next, down_moves}
 use Rattle.settle_confirmations.proofs.Taken.{some_unit}
-
--- ---- lists
-all_taken : {A : Type 0} (xs : List A) (x : A) → In x xs → In x (take (length xs) xs)
-all_taken [] x i = absurd i
-all_taken (y ∷ ys) x i = ⊎_elim (λ (e : x ≡ y). inl e) (λ (j : In x ys). inr (all_taken ys x j)) i
-
-module _ (q : ℕ) (F : Step → World → Type 0) where
-  pub happens_first : (ss ts : List Step) (w : World) → Happens (machine q) F ss w → Happens (machine q) F (ss ++ ts) w
-  happens_first [] ts w h = absurd h
-  happens_first (s ∷ ss) ts w h = ⊎_elim (λ (now : F s w). inl now) (λ (later : Happens (machine q) F ss (step q s w)). inr (happens_first ss ts (step q s w) later)) h
-
-  pub happens_then : (ss ts : List Step) (w : World) → Happens (machine q) F ts (run (machine q) ss w) → Happens (machine q) F (ss ++ ts) w
-  happens_then [] ts w h = h
-  happens_then (s ∷ ss) ts w h = inr (happens_then ss ts (step q s w) h)
-
-pub happens_so : (q : ℕ) (F G : Step → World → Type 0) → ((t : Step) (w : World) → F t w → G t w) → (ss : List Step) (w : World) → Happens (machine q) F ss w → Happens (machine q) G ss w
-happens_so q F G so [] w h = absurd h
-happens_so q F G so (s ∷ ss) w h = ⊎_elim (λ (now : F s w). inl (so s w now)) (λ (later : Happens (machine q) F ss (step q s w)). inr (happens_so q F G so ss (step q s w) later)) h
+use Rattle.settle_confirmations.proofs.Waiting.{happens_in, happens_so}
 
 -- an answer, in a world of which something holds that deliveries keep
 module _ (q : ℕ) (s : Session) (st : StyleKind) (x : Sender) (flow : TokenBucket) (e : ℕ) (Holds : World → Type 0)
     (keeps : (u : World) → IsAsking q s st x e u → Holds u → Holds (step q (Deliver 0) u)) where
   abbrev pub Answers : Step → World → Type 0
   Answers t u = IsAnswered s st x flow e t u × Holds u
-
-  abbrev deliveries : ℕ → List Step
-  deliveries m = repeat m (Deliver 0 ∷ [])
-
-  abbrev After : ℕ → World → World
-  After m u = run (machine q) (deliveries m) u
 
   -- an item that is on its way, with so many passes to come at most
   abbrev IsUnder : ℕ → World → Item → Type 0
@@ -112,71 +85,18 @@ module _ (q : ℕ) (s : Session) (st : StyleKind) (x : Sender) (flow : TokenBuck
         inr (t.item, t.flight, inr (t.down, omega (arith, le, low)), λ b i. least b (subst (λ (w : Arrival). In b (arrival_units w)) (sym t.same) i)))
         (down_moves q s st x e u a flow y arr d.0 least)) z
 
-    less : (k : ℕ) (w : World) (y : Item) → IsUnder k w y → IsUnder (suc k) w y
-    less k w y z =
-        ⊎_elim (λ (v : (v : IsUp w s st x e y) × (2 * longest w.net + 1 ≤ k + rank w.net s.group v.hop)). let le = v.1 in inl (v.0, omega (arith, le)))
-        (λ (d : (d : IsDown w s st x e y) × (rank w.net s.group d.hop ≤ k)). let le = d.1 in inr (d.0, omega (arith, le))) z
-
-    delivery : (k : ℕ) → IsOnItsWay k u → Answers (Deliver 0) u ⊎ IsOnItsWay k next
-    delivery k z =
-        ⊎_elim (λ (now : slice_get u.flight 0 ≡ Some z.0). by k z.2 now)
-        (λ (later : In z.0 (remove u.flight 0)).
-        inr (z.0, in_left z.0 (rest (Deliver 0) u) (each (λ (w : Item × Bool). w.0) (sent q (Deliver 0) u)) later, stays_under k z.0 z.2, z.3))
-        (now_or_later z.0 0 u.flight z.1)
-      where
-        by : (k : ℕ) → IsUnder k u z.0 → slice_get u.flight 0 ≡ Some z.0 → Answers (Deliver 0) u ⊎ IsOnItsWay k next
-        by zero under now = absurd (not_over u a z.0 under)
-        by (suc k) under now =
-            ⊎_elim (λ (t : Answers (Deliver 0) u). inl t) (λ (t : IsOnItsWay k next). inr (t.0, t.1, less k next t.0 t.2, t.3)) (moves k z.0 now under z.3)
-
-  asking_on : (m : ℕ) (u : World) → IsAsking q s st x e u → Holds u → IsAsking q s st x e (After m u) × Holds (After m u)
-  asking_on zero u a h = (a, h)
-  asking_on (suc m) u a h = asking_on m (step q (Deliver 0) u) (asking_next q s st x e u a) (keeps u a h)
-
-  way_on : (m k : ℕ) (u : World) → IsAsking q s st x e u → Holds u → IsOnItsWay k u → Happens (machine q) Answers (deliveries m) u ⊎ IsOnItsWay k (After m u)
-  way_on zero k u a h z = inr z
-  way_on (suc m) k u a h z =
-      ⊎_elim (λ (t : Answers (Deliver 0) u). inl (inl t))
-      (λ (t : IsOnItsWay k (step q (Deliver 0) u)).
-      ⊎_elim (λ (o : Happens (machine q) Answers (deliveries m) (step q (Deliver 0) u)). inl (inr o)) (λ (w : IsOnItsWay k (After m (step q (Deliver 0) u))). inr w)
-      (way_on m k (step q (Deliver 0) u) (asking_next q s st x e u a) (keeps u a h) t))
-      (delivery u a h k z)
-
-  -- what is among the first so many has a pass less to come when these are delivered
-  front_on : (m k : ℕ) (u : World) → IsAsking q s st x e u → Holds u → (y : Item) → In y (take m u.flight) → IsUnder (suc k) u y → IsForAtLeast flow y
-      → Happens (machine q) Answers (deliveries m) u ⊎ IsOnItsWay k (After m u)
-  front_on zero k u a h y i z least = absurd i
-  front_on (suc m) k u a h y i z least =
-      by u.flight refl i (λ j. front_on m k (step q (Deliver 0) u) (asking_next q s st x e u a) (keeps u a h) y j (stays_under u a h (suc k) y z) least)
-    where
-      by : (ys : List Item) → u.flight ≡ ys → In y (take (suc m) ys)
-          → (In y (take m (step q (Deliver 0) u).flight) → Happens (machine q) Answers (deliveries m) (step q (Deliver 0) u) ⊎ IsOnItsWay k (After m (step q (Deliver 0) u)))
-          → Happens (machine q) Answers (deliveries (suc m)) u ⊎ IsOnItsWay k (After (suc m) u)
-      by [] is j more = absurd j
-      by (w ∷ ys) is j more =
-          ⊎_elim
-          (λ (now : y ≡ w).
-          let at : slice_get u.flight 0 ≡ Some y = ap (λ (zs : List Item). slice_get zs 0) is ∙ ap Some (sym now) in
-          ⊎_elim (λ (t : Answers (Deliver 0) u). inl (inl t))
-          (λ (t : IsOnItsWay k (step q (Deliver 0) u)).
-          ⊎_elim (λ (p : Happens (machine q) Answers (deliveries m) (step q (Deliver 0) u)). inl (inr p)) (λ (o : IsOnItsWay k (After m (step q (Deliver 0) u))). inr o)
-          (way_on m k (step q (Deliver 0) u) (asking_next q s st x e u a) (keeps u a h) t))
-          (moves u a h k y at z least))
-          (λ (later : In y (take m ys)).
-          let new : List Item = each (λ (o : Item × Bool). o.0) (sent q (Deliver 0) u) in
-          let flight : ys ++ new ≡ (step q (Deliver 0) u).flight = ap (λ (zs : List Item). remove zs 0 ++ new) (sym is) in
-          ⊎_elim (λ (p : Happens (machine q) Answers (deliveries m) (step q (Deliver 0) u)). inl (inr p)) (λ (o : IsOnItsWay k (After m (step q (Deliver 0) u))). inr o)
-          (more (subst (λ (zs : List Item). In y (take m zs)) flight (in_take y m ys new later)))) j
+  less : (k : ℕ) (w : World) (y : Item) → IsUnder k w y → IsUnder (suc k) w y
+  less k w y z =
+      ⊎_elim (λ (v : (v : IsUp w s st x e y) × (2 * longest w.net + 1 ≤ k + rank w.net s.group v.hop)). let le = v.1 in inl (v.0, omega (arith, le)))
+      (λ (d : (d : IsDown w s st x e y) × (rank w.net s.group d.hop ≤ k)). let le = d.1 in inr (d.0, omega (arith, le))) z
 
   pub answered_in : (k : ℕ) (u : World) → IsAsking q s st x e u → Holds u → IsOnItsWay k u → Happens (machine q) Answers (passes q k u) u
-  answered_in zero u a h z = absurd (not_over u a z.0 z.2)
-  answered_in (suc k) u a h z =
-      let m : ℕ = length u.flight in
-      ⊎_elim (λ (p : Happens (machine q) Answers (pass q u) u). happens_first q Answers (pass q u) (passes q k (After m u)) u p)
-      (λ (o : IsOnItsWay k (After m u)).
-      let later = asking_on m u a h in
-      happens_then q Answers (pass q u) (passes q k (After m u)) u (answered_in k (After m u) later.0 later.1 o))
-      (front_on m k u a h z.0 (all_taken u.flight z.0 z.1) z.2 z.3)
+  answered_in k u a h z =
+      happens_in q Answers (λ w. IsAsking q s st x e w × Holds w) (λ w b. (asking_next q s st x e w b.0, keeps w b.0 b.1)) (λ k w y. IsUnder k w y × IsForAtLeast flow y)
+      (λ w b y under. not_over w b.0 y under.0) (λ k w y under. (less k w y under.0, under.1)) (λ w b k y under. (stays_under w b.0 b.1 k y under.0, under.1))
+      (λ w b k y arr under.
+      ⊎_elim (λ (now : Answers (Deliver 0) w). inl now) (λ (later : IsOnItsWay k (step q (Deliver 0) w)). inr (later.0, later.1, (later.2, later.3))) (moves w b.0 b.1 k y arr under.0 under.1))
+      k u (a, h) (z.0, z.1, (z.2, z.3))
 
 -- ---- requests of an end, in a network that reserves
 abbrev Anything : World → Type 0

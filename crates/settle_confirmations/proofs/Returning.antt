@@ -6,6 +6,7 @@ use Rattle.rsvp_base.specs.declared.iface.Iface.{Iface}
 use Rattle.rsvp_base.specs.declared.session.Sender.{Sender}
 use Rattle.rsvp_base.specs.declared.session.Session.{Session}
 use Rattle.rsvp_base.specs.declared.style.StyleKind.{StyleKind}
+use Rattle.rsvp_base.specs.declared.style.Unit.{Unit as UnitOf}
 use Rattle.rsvp_base.specs.Members.{In}
 use Rattle.rsvp_base.specs.Table.{get}
 use Rattle.rsvp_base.specs.TokenBucket.{TokenBucket}
@@ -13,6 +14,7 @@ use Rattle.rsvp_base.proofs.Members.{in_any, in_each, in_left, in_right, to_each
 use Rattle.rsvp_base.proofs.Tables.{either}
 use Rattle.rsvp_messages.specs.declared.message.Message.TheVariants as message
 use Rattle.rsvp_messages.specs.declared.message.ResvConfMsg.{ResvConfMsg}
+use Rattle.rsvp_messages.specs.Units.{ask_style}
 use Rattle.laws_inputs.specs.MessageLaws.{IsConfOn}
 use Rattle.laws_inputs.proofs.Quiet.{steps_without_change}
 use Rattle.laws_inputs.proofs.Receiving.{confirmations_by_wish}
@@ -23,8 +25,8 @@ use Rattle.router_rules.specs.declared.answers.Heard.TheVariants as heard
 use Rattle.router_rules.specs.declared.answers.Why.TheVariants as why
 use Rattle.router_rules.specs.Act.{act, act_spelt, is_mine}
 use Rattle.router_rules.specs.Bounds.{IsWithinBounds}
-use Rattle.router_rules.specs.Confirming.{confs_heard, confs_on, is_wish}
-use Rattle.router_rules.specs.Facts.{Facts, resvs_of}
+use Rattle.router_rules.specs.Confirming.{confs_heard, confs_on, is_wish, speaks_of}
+use Rattle.router_rules.specs.Facts.{Facts, ResvState, resvs_of}
 use Rattle.router_rules.specs.Inputs.{Arrival, Change, Came, ConfSend, Input, Send, Spelt, in_order, only_heard}
 use Rattle.router_rules.specs.NodeConfig.{NodeConfig, is_addr, is_own, own}
 use Rattle.router_rules.specs.Rule.{Outcome, rule}
@@ -49,7 +51,9 @@ use Rattle.network_model.proofs.Quiet.{outcome_by}
 use Rattle.network_model.proofs.Stepping.{copies_made, sent_made}
 use Rattle.laws_network.proofs.Known.{came_there, node_there, of_some}
 use Rattle.laws_network.proofs.Standing.{own_end, place_in, some_at, to_there}
+use Rattle.settle_resvs.specs.SoftResvs.{resv_at}
 use Rattle.settle_resvs.proofs.SoftResvs.{resv_found}
+use Rattle.settle_passes.specs.Reserving.{IsReserving}
 use Rattle.settle_passes.proofs.Deliveries.{came_by_delivery, known_self}
 use Rattle.settle_passes.proofs.Reserving.{turns}
 use Rattle.settle_passes.proofs.Turns.{Turns}
@@ -67,7 +71,7 @@ iface_told ends (d ∷ es) on i = by (slice_get ends d) refl i (λ j. iface_told
     by None a j rest = let r = rest j in (r.0, r.1, inr r.2, r.3, r.4)
     by (Some x) a j rest = ⊎_elim (λ (same : on ≡ x.iface). (d, x, inl refl, a, same)) (λ (k : In on (ifaces_at ends es)). let r = rest k in (r.0, r.1, inr r.2, r.3, r.4)) j
 
-own_node : (q : ℕ) (net : Net) (trees : List (Addr × Addr)) (n e : ℕ) → IsValid net → e < length net.ends → is_own (config_of q net trees n) (addr_of net e) ≡ true → node_of net.ends e ≡ n
+pub own_node : (q : ℕ) (net : Net) (trees : List (Addr × Addr)) (n e : ℕ) → IsValid net → e < length net.ends → is_own (config_of q net trees n) (addr_of net e) ≡ true → node_of net.ends e ≡ n
 own_node q net trees n e valid lt own =
     let on = in_any (λ (i : Iface). is_addr i.addr (addr_of net e)) (config_of q net trees n).ifaces own in
     let d = iface_told net.ends (ends_of net.ends n) on.0 on.1 in
@@ -83,21 +87,18 @@ conf_act : (p : NodeConfig) (c i : ℕ) (f : Facts) (m : ResvConfMsg) (mine : Bo
 conf_act p c i f m false = (heard.Dropped why.NotMine, [], refl)
 conf_act p c i f m true = ((confs_heard (is_own p m.confirm) (confs_on m f)).1, (confs_heard (is_own p m.confirm) (confs_on m f)).0, refl)
 
-module _ (q : ℕ) (s : Session) (st : StyleKind) (x : Sender) (e : ℕ) (u : World) (a : IsAsking q s st x e u) where
-  abbrev next : World
-  next = step q (Deliver 0) u
-
+module _ (q : ℕ) (s : Session) (u : World) (r : IsReserving q s u) where
   -- what a ResvConf that is delivered makes of a node
   conf_rule : (y : Item) → slice_get u.flight 0 ≡ Some y → (k : IsConf y) → (n : ℕ) (f : Facts) → slice_get u.nodes n ≡ Some f → Turns q (Deliver 0) u n f
       → (h : Heard) × (cs : List ConfSend) × (outcome q (Deliver 0) u n f ≡ record { facts = f; sent = error_sends [] ++ conf_sends cs; heard = h })
   conf_rule y arr k n f at t =
-      let d = came_by_delivery q 0 u a.reserving.paths.bounds n t.input t.came in
+      let d = came_by_delivery q 0 u r.paths.bounds n t.input t.came in
       let is : d.item ≡ y = of_some d.item y (sym d.arrives ∙ arr) in
       let p : NodeConfig = config_of q u.net u.trees n in
       let i : ℕ = iface_of u.net.ends d.item.end in
       let input : t.input ≡ Came i d.item.dst (Spelt (message.ResvConf k.0)) = d.is ∙ ap (λ (w : Item). Came i d.item.dst w.arrival) is ∙ ap (Came i d.item.dst) k.1 in
       let now : u.clock ≡ u.clock + 0 = omega arith in
-      let within : IsWithinBounds p (u.clock + 0) f = subst (λ (w : ℕ). IsWithinBounds p w f) now (a.reserving.paths.bounds.facts n f at) in
+      let within : IsWithinBounds p (u.clock + 0) f = subst (λ (w : ℕ). IsWithinBounds p w f) now (r.paths.bounds.facts n f at) in
       let act_is = conf_act p (u.clock + 0) i f k.0 (is_mine p i d.item.dst (message.ResvConf k.0)) in (
         act_is.0,
         act_is.1,
@@ -106,14 +107,19 @@ module _ (q : ℕ) (s : Session) (st : StyleKind) (x : Sender) (e : ℕ) (u : Wo
       )
 
   -- it changes no fact
+  pub conf_leaves : (y : Item) → slice_get u.flight 0 ≡ Some y → IsConf y → (n : ℕ) (f : Facts) → slice_get u.nodes n ≡ Some f → (outcome q (Deliver 0) u n f).facts ≡ f
+  conf_leaves y arr k n f at =
+      ⊎_elim (λ (h : outcome q (Deliver 0) u n f ≡ still f). ap (λ (o : Outcome). o.facts) h)
+      (λ (t : Turns q (Deliver 0) u n f). let made = conf_rule y arr k n f at t in ap (λ (o : Outcome). o.facts) made.2)
+      (turns q s u r n f at)
+
   pub conf_keeps : ((y : Item) → In y u.flight → IsConf y) → (n : ℕ) (f : Facts) → slice_get u.nodes n ≡ Some f → (outcome q (Deliver 0) u n f).facts ≡ f
   conf_keeps all n f at =
       ⊎_elim (λ (h : outcome q (Deliver 0) u n f ≡ still f). ap (λ (o : Outcome). o.facts) h)
       (λ (t : Turns q (Deliver 0) u n f).
-      let d = came_by_delivery q 0 u a.reserving.paths.bounds n t.input t.came in
-      let r = conf_rule d.item d.arrives (all d.item (in_arrived (Deliver 0) u d.item d.arrives)) n f at t in
-      ap (λ (o : Outcome). o.facts) r.2)
-      (turns q s u a.reserving n f at)
+      let d = came_by_delivery q 0 u r.paths.bounds n t.input t.came in
+      conf_leaves d.item d.arrives (all d.item (in_arrived (Deliver 0) u d.item d.arrives)) n f at)
+      (turns q s u r n f at)
 
   pub conf_item : (y : Item) → slice_get u.flight 0 ≡ Some y → (k : IsConf y) → (z : Item) (b : Bool) → In (z, b) (sent q (Deliver 0) u) → IsConf z
   conf_item y arr k z b sends =
@@ -122,11 +128,77 @@ module _ (q : ℕ) (s : Session) (st : StyleKind) (x : Sender) (e : ℕ) (u : Wo
       ⊎_elim
       (λ (h : outcome q (Deliver 0) u c.node c.facts ≡ still c.facts). absurd (subst (λ (w : Outcome). In c.send w.sent) h c.sent))
       (λ (t : Turns q (Deliver 0) u c.node c.facts).
-      let r = conf_rule y arr k c.node c.facts c.there t in
-      let among : In c.send (conf_sends r.1) = subst (λ (w : Outcome). In c.send w.sent) r.2 c.sent in
-      let one = in_each conf_send c.send (in_order next_hops (λ (w : ConfSend). (w.iface, w.dst)) r.1) among in
+      let made = conf_rule y arr k c.node c.facts c.there t in
+      let among : In c.send (conf_sends made.1) = subst (λ (w : Outcome). In c.send w.sent) made.2 c.sent in
+      let one = in_each conf_send c.send (in_order next_hops (λ (w : ConfSend). (w.iface, w.dst)) made.1) among in
       (one.0.conf, arrival ∙ ap (λ (w : Send). Spelt w.message) one.2))
-      (turns q s u a.reserving c.node c.facts c.there)
+      (turns q s u r c.node c.facts c.there)
+
+  -- ---- one that arrives goes on over a hop behind its own, where the reservation keeps its address and it speaks of a sender of it
+  pub record IsPassedDown (y : Item) (h' : LinkHop) : Type 0 where
+    pub item : Item
+    pub flight : In item (step q (Deliver 0) u).flight
+    pub end : item.end ≡ h'.to
+    pub dst : item.dst ≡ addr_of u.net h'.to
+    pub same : y.arrival ≡ item.arrival
+
+  pub passed_down : (y : Item) → slice_get u.flight 0 ≡ Some y → (k : IsConf y) (h h' : LinkHop) (x : Addr) → y.end ≡ h.to → y.dst ≡ addr_of u.net h.to
+      → In h' (tree u.net.hops s.group x) → node_of u.net.ends h'.from ≡ node_of u.net.ends h.to → is_own (config_of q u.net u.trees (node_of u.net.ends y.end)) k.0.confirm ≡ false
+      → (unit : UnitOf) (resv : ResvState)
+      → resv_at u (node_of u.net.ends h'.from) (ask_style k.0.ask) (k.0.session, ((iface_of u.net.ends h'.from, addr_of u.net h'.to), unit)) ≡ Some resv
+      → resv.confirm ≡ Some k.0.confirm → speaks_of k.0.ask resv.part.senders ≡ true → IsPassedDown y h'
+  passed_down y arr k h h' x end_is dst_is there meet not_own unit resv resv_is wish speaks =
+      let bounds = r.paths.bounds in
+      let conf : ResvConfMsg = k.0 in
+      let lt : y.end < length u.net.ends = (bounds.flight y (in_arrived (Deliver 0) u y arr)).end in
+      let self = known_self q u bounds in
+      let f = node_there q u bounds.net u y.end self lt in
+      let end = (interfaces_are_ends u.net).end_of_iface y.end lt in
+      let dst : y.dst ≡ own (config_of q u.net u.trees (node_of u.net.ends y.end)) (iface_of u.net.ends y.end) =
+      dst_is ∙ ap (addr_of u.net) (sym end_is) ∙ sym (own_end q u.net u.trees (node_of u.net.ends y.end) (iface_of u.net.ends y.end) y.end end) in
+      let input : Input = Came (iface_of u.net.ends y.end) y.dst (Spelt (message.ResvConf conf)) in
+      let place : NodeConfig = config_of q u.net u.trees (node_of u.net.ends y.end) in
+      let came : input_at (Deliver 0) u (node_of u.net.ends y.end) ≡ Some (Came (iface_of u.net.ends y.end) y.dst (Spelt (message.ResvConf conf))) =
+      came_there q u u self y.end lt (Deliver 0) y arr refl ∙ ap (λ (z : Arrival). Some (Came (iface_of u.net.ends y.end) y.dst z)) k.1 in
+      let out : outcome q (Deliver 0) u (node_of u.net.ends y.end) f.0 ≡ rule place place (u.clock + 0) input f.0 = outcome_by q (Deliver 0) u (node_of u.net.ends y.end) f.0 input refl came in
+      let mine : is_mine place (iface_of u.net.ends y.end) y.dst (message.ResvConf conf) ≡ true = addr_tested y.dst (own place (iface_of u.net.ends y.end)) dst in
+      let at : node_of u.net.ends h'.from ≡ node_of u.net.ends y.end = meet ∙ ap (node_of u.net.ends) (sym end_is) in
+      let kept = resv_found u (node_of u.net.ends h'.from) (ask_style conf.ask) (conf.session, ((iface_of u.net.ends h'.from, addr_of u.net h'.to), unit)) resv resv_is in
+      let same_facts : kept.0 ≡ f.0 = of_some kept.0 f.0 (sym kept.1 ∙ ap (λ (z : ℕ). slice_get u.nodes z) at ∙ f.1) in
+      let told : ConfSend = record { iface = iface_of u.net.ends h'.from; dst = addr_of u.net h'.to; conf = conf } in
+      let on : IsConfOn conf f.0 told =
+      record {
+        hop = (iface_of u.net.ends h'.from, addr_of u.net h'.to);
+        unit = unit;
+        resv = resv;
+        there = ap (λ (z : Facts). get (resvs_of (ask_style conf.ask) z) (conf.session, ((iface_of u.net.ends h'.from, addr_of u.net h'.to), unit))) (sym same_facts) ∙ kept.2;
+        wanted = ap (λ (z : Option Addr). is_wish z conf.confirm) wish ∙ addr_tested conf.confirm conf.confirm refl;
+        speaks = speaks;
+        is = refl;
+      } in
+      let act_is : act place (u.clock + 0) input f.0 ≡ record (only_heard heard.Taken f.0) { confs = confs_on conf f.0 } =
+      ap (λ (z : Bool). act_spelt place (u.clock + 0) (iface_of u.net.ends y.end) (message.ResvConf conf) z f.0) mine ∙ confirmations_by_wish.passed place conf f.0 told not_own on in
+      let among : In told (act place (u.clock + 0) input f.0).confs = subst (λ (z : Change). In told z.confs) (sym act_is) ((confirmations_by_wish.on conf f.0 told).1 on) in
+      let sends : In (conf_send told) (sent_then place place (u.clock + 0) input f.0) =
+      send_made place place (u.clock + 0) input f.0 (conf_send told) refl (inr (inr (inr (inl (record { conf = told; made = in_left told _ _ among; is = refl }))))) in
+      let sent_out : In (conf_send told) (outcome q (Deliver 0) u (node_of u.net.ends y.end) f.0).sent = subst (λ (z : Outcome). In (conf_send told) z.sent) (sym out) sends in
+      let goes : In h'.to (goes_to u.net (end_at u.net.ends (node_of u.net.ends y.end) (iface_of u.net.ends h'.from)) (addr_of u.net h'.to)) =
+      subst (λ (z : ℕ). In h'.to (goes_to u.net (end_at u.net.ends z (iface_of u.net.ends h'.from)) (addr_of u.net h'.to))) at (goes_down q u bounds s.group x h' there) in
+      let copy : Item × Bool = copy_to u.made (conf_send told) h'.to in
+      let made : In copy (sent q (Deliver 0) u) =
+      sent_made q (Deliver 0) u (node_of u.net.ends y.end) f.0 copy f.1
+      (copies_made u.net u.made (node_of u.net.ends y.end) (outcome q (Deliver 0) u (node_of u.net.ends y.end) f.0).sent (conf_send told) h'.to sent_out goes) in
+      record {
+        item = copy.0;
+        flight = in_right copy.0 (rest (Deliver 0) u) (each (λ (w : Item × Bool). w.0) (sent q (Deliver 0) u)) (to_each (λ (w : Item × Bool). w.0) copy (sent q (Deliver 0) u) made);
+        end = refl;
+        dst = refl;
+        same = k.1;
+      }
+
+module _ (q : ℕ) (s : Session) (st : StyleKind) (x : Sender) (e : ℕ) (u : World) (a : IsAsking q s st x e u) where
+  abbrev next : World
+  next = step q (Deliver 0) u
 
   -- ---- all that is in flight after a delivery
   pub asking_next : IsAsking q s st x e next
@@ -142,7 +214,7 @@ module _ (q : ℕ) (s : Session) (st : StyleKind) (x : Sender) (e : ℕ) (u : Wo
           ⊎_elim
           (λ (v : IsUp u s st x e d.item).
           ⊎_elim (λ (k : IsConf z). inr k) (λ (o : IsOnward q s st x e u a d.item d.arrives v z). inl o.up) (new_item q s st x e u a d.item d.arrives v z b sends))
-          (λ (k : IsConf d.item). inr (conf_item d.item d.arrives k z b sends))
+          (λ (k : IsConf d.item). inr (conf_item q s u a.reserving d.item d.arrives k z b sends))
           (a.each d.item (in_arrived (Deliver 0) u d.item d.arrives)))
           (turns q s u a.reserving c.node c.facts c.there)
 
@@ -180,12 +252,6 @@ module _ (q : ℕ) (s : Session) (st : StyleKind) (x : Sender) (e : ℕ) (u : Wo
   pub down_moves : (flow : TokenBucket) (y : Item) → slice_get u.flight 0 ≡ Some y → (d : IsDown u s st x e y) → IsForAtLeast flow y → IsAnswered s st x flow e (Deliver 0) u ⊎ GoesDown y d
   down_moves flow y arr d least = by d.hops d.leads
     where
-      flies : In y u.flight
-      flies = in_arrived (Deliver 0) u y arr
-
-      lt : y.end < length u.net.ends
-      lt = (a.reserving.paths.bounds.flight y flies).end
-
       by : (hs : List LinkHop) → Leads u s st x e hs d.hop → IsAnswered s st x flow e (Deliver 0) u ⊎ GoesDown y d
       by [] l =
           inl (record {
@@ -205,17 +271,7 @@ module _ (q : ℕ) (s : Session) (st : StyleKind) (x : Sender) (e : ℕ) (u : Wo
           let bounds = a.reserving.paths.bounds in
           let next_one : IsNext u.net s x d.hop h' = l.0 in
           let mark : IsMarked u s st (addr_of u.net e) h' = l.1 in
-          let self = known_self q u bounds in
-          let f = node_there q u bounds.net u y.end self lt in
-          let end = (interfaces_are_ends u.net).end_of_iface y.end lt in
-          let dst : y.dst ≡ own (config_of q u.net u.trees (node_of u.net.ends y.end)) (iface_of u.net.ends y.end) =
-          d.dst ∙ ap (addr_of u.net) (sym d.end) ∙ sym (own_end q u.net u.trees (node_of u.net.ends y.end) (iface_of u.net.ends y.end) y.end end) in
-          let input : Input = Came (iface_of u.net.ends y.end) y.dst (Spelt (message.ResvConf d.conf)) in
           let place : NodeConfig = config_of q u.net u.trees (node_of u.net.ends y.end) in
-          let came : input_at (Deliver 0) u (node_of u.net.ends y.end) ≡ Some (Came (iface_of u.net.ends y.end) y.dst (Spelt (message.ResvConf d.conf))) =
-          came_there q u u self y.end lt (Deliver 0) y arr refl ∙ ap (λ (z : Arrival). Some (Came (iface_of u.net.ends y.end) y.dst z)) d.says in
-          let out : outcome q (Deliver 0) u (node_of u.net.ends y.end) f.0 ≡ rule place place (u.clock + 0) input f.0 = outcome_by q (Deliver 0) u (node_of u.net.ends y.end) f.0 input refl came in
-          let mine : is_mine place (iface_of u.net.ends y.end) y.dst (message.ResvConf d.conf) ≡ true = addr_tested y.dst (own place (iface_of u.net.ends y.end)) dst in
           -- it is for another node: else the tree would come to this one twice
           let last = last_of_them hs h' next_one.there l.2 in
           let e_there = to_there u.net bounds.net s.group x.addr last.hop last.there in
@@ -232,50 +288,28 @@ module _ (q : ℕ) (s : Session) (st : StyleKind) (x : Sender) (e : ℕ) (u : Wo
           absurd (omega (arith, low, low', ranks)))
           (λ no. no) in
           -- the mark to which it goes on
-          let at : node_of u.net.ends h'.from ≡ node_of u.net.ends y.end = next_one.meet ∙ ap (node_of u.net.ends) (sym d.end) in
           let kept = resv_found u (node_of u.net.ends h'.from) st (s, ((iface_of u.net.ends h'.from, addr_of u.net h'.to), mark.unit)) mark.resv mark.there in
-          let same_facts : kept.0 ≡ f.0 = of_some kept.0 f.0 (sym kept.1 ∙ ap (λ (z : ℕ). slice_get u.nodes z) at ∙ f.1) in
           let fact = a.reserving.sound.facts st (node_of u.net.ends h'.from) kept.0 (s, ((iface_of u.net.ends h'.from, addr_of u.net h'.to), mark.unit)) mark.resv kept.1 kept.2 in
-          let told : ConfSend = record { iface = iface_of u.net.ends h'.from; dst = addr_of u.net h'.to; conf = d.conf } in
-          let on : IsConfOn d.conf f.0 told =
-          record {
-            hop = (iface_of u.net.ends h'.from, addr_of u.net h'.to);
-            unit = mark.unit;
-            resv = mark.resv;
-            there = (λ j. get (resvs_of (d.style j) (sym same_facts j)) (d.session j, ((iface_of u.net.ends h'.from, addr_of u.net h'.to), mark.unit))) ∙ kept.2;
-            wanted = (λ j. is_wish (mark.wish j) (d.confirm j)) ∙ addr_tested (addr_of u.net e) (addr_of u.net e) refl;
-            speaks = d.speaks mark.resv.part.senders (listed_one u s x a.only st fact.end (addr_of u.net h'.to) mark.unit mark.resv.part fact.sound);
-            is = refl;
-          } in
-          let act_is : act place (u.clock + 0) input f.0 ≡ record (only_heard heard.Taken f.0) { confs = confs_on d.conf f.0 } =
-          ap (λ (z : Bool). act_spelt place (u.clock + 0) (iface_of u.net.ends y.end) (message.ResvConf d.conf) z f.0) mine ∙ confirmations_by_wish.passed place d.conf f.0 told not_own on in
-          let among : In told (act place (u.clock + 0) input f.0).confs = subst (λ (z : Change). In told z.confs) (sym act_is) ((confirmations_by_wish.on d.conf f.0 told).1 on) in
-          let sends : In (conf_send told) (sent_then place place (u.clock + 0) input f.0) =
-          send_made place place (u.clock + 0) input f.0 (conf_send told) refl (inr (inr (inr (inl (record { conf = told; made = in_left told _ _ among; is = refl }))))) in
-          let sent_out : In (conf_send told) (outcome q (Deliver 0) u (node_of u.net.ends y.end) f.0).sent = subst (λ (z : Outcome). In (conf_send told) z.sent) (sym out) sends in
-          let goes : In h'.to (goes_to u.net (end_at u.net.ends (node_of u.net.ends y.end) (iface_of u.net.ends h'.from)) (addr_of u.net h'.to)) =
-          subst (λ (z : ℕ). In h'.to (goes_to u.net (end_at u.net.ends z (iface_of u.net.ends h'.from)) (addr_of u.net h'.to))) at (goes_down q u bounds s.group x.addr h' next_one.there) in
-          let copy : Item × Bool = copy_to u.made (conf_send told) h'.to in
-          let made : In copy (sent q (Deliver 0) u) =
-          sent_made q (Deliver 0) u (node_of u.net.ends y.end) f.0 copy f.1
-          (copies_made u.net u.made (node_of u.net.ends y.end) (outcome q (Deliver 0) u (node_of u.net.ends y.end) f.0).sent (conf_send told) h'.to sent_out goes) in
+          let on = passed_down q s u a.reserving y arr (d.conf, d.says) d.hop h' x.addr d.end d.dst next_one.there next_one.meet not_own mark.unit mark.resv
+          ((λ j. resv_at u (node_of u.net.ends h'.from) (d.style j) (d.session j, ((iface_of u.net.ends h'.from, addr_of u.net h'.to), mark.unit))) ∙ mark.there) (mark.wish ∙ ap Some (sym d.confirm))
+          (d.speaks mark.resv.part.senders (listed_one u s x a.only st fact.end (addr_of u.net h'.to) mark.unit mark.resv.part fact.sound)) in
           inr (record {
-            item = copy.0;
-            flight = in_right copy.0 (rest (Deliver 0) u) (each (λ (w : Item × Bool). w.0) (sent q (Deliver 0) u)) (to_each (λ (w : Item × Bool). w.0) copy (sent q (Deliver 0) u) made);
+            item = on.item;
+            flight = on.flight;
             down = record {
               conf = d.conf;
-              says = refl;
+              says = sym on.same ∙ d.says;
               session = d.session;
               style = d.style;
               confirm = d.confirm;
               speaks = d.speaks;
               hop = h';
               there = next_one.there;
-              end = refl;
-              dst = refl;
+              end = on.end;
+              dst = on.dst;
               hops = hs;
               leads = leads_next q s st x e u a hs h' l.2;
             };
             lower = next_one.lower;
-            same = d.says;
+            same = on.same;
           })

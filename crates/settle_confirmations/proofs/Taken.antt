@@ -1,20 +1,21 @@
 -- A Resv that is taken whole and asks to be confirmed: each unit of it is kept with the mark, and it is answered where nothing new goes on.
 use Rattle.std.proofs.Common.{◌≡◌, ℕ, ◌<◌, length, arith, List, [], ◌∷◌, Bool, true, false, cond, Option, None, Some, ◌⊎◌, inl, inr, ⊎_elim, sym, refl, ap, subst, ◌∙◌}
-use Rattle.std.specs.Prelude.{is_some, not, ◌++◌, ◌||◌, map as each}
+use Rattle.std.specs.Prelude.{is_some, not, ◌++◌, ◌||◌, ◌&&◌, map as each}
 use Rattle.std.specs.Ordering.{eq_by_cmp, is_lt}
 use Rattle.admission_book.specs.declared.refused.Refused.{Refused}
 use Rattle.rsvp_base.specs.declared.addr.Addr.{Addr}
 use Rattle.rsvp_base.specs.declared.part.Part.{Part}
 use Rattle.rsvp_base.specs.declared.session.Sender.{Sender}
+use Rattle.rsvp_base.specs.declared.session.Session.{Session}
 use Rattle.rsvp_base.specs.declared.style.StyleKind.{StyleKind}
 use Rattle.rsvp_base.specs.declared.style.Unit.{Unit as UnitOf}
-use Rattle.rsvp_base.specs.declared.style.Unit.TheVariants.{One}
+use Rattle.rsvp_base.specs.declared.style.Unit.TheVariants.{Of, One}
 use Rattle.rsvp_base.specs.Members.{In}
 use Rattle.rsvp_base.specs.Orders.{Names, senders, units}
 use Rattle.rsvp_base.specs.Sets.{cut, is_none}
 use Rattle.rsvp_base.specs.Table.{get, has, keys, kept}
 use Rattle.rsvp_base.specs.TokenBucket.{TokenBucket}
-use Rattle.rsvp_base.proofs.Counts.{set_of_in}
+use Rattle.rsvp_base.proofs.Counts.{in_found, set_of_in}
 use Rattle.rsvp_base.proofs.Fronts.{to_keys}
 use Rattle.rsvp_base.proofs.Members.{any_in, in_each, in_right, to_each}
 use Rattle.rsvp_base.proofs.SetLaws.{and_both, and_made, has-cut}
@@ -27,22 +28,27 @@ use Rattle.rsvp_messages.specs.declared.message.ResvMsg.{ResvMsg}
 use Rattle.rsvp_messages.specs.Proper.{IsProperAsk}
 use Rattle.rsvp_messages.specs.Units.{AskedUnit, ask_style, asked_units, fixed_unit, only}
 use Rattle.style_rules.specs.CutLaws.{made_of, part_of_some, some_within}
-use Rattle.style_rules.specs.Lines.{Line}
+use Rattle.style_rules.specs.Lines.{Line, LineKey}
 use Rattle.style_rules.specs.Merge.{PartTable}
 use Rattle.style_rules.specs.Parts.{has_name, part_of}
 use Rattle.laws_inputs.specs.AskLaws.{IsTaken, IsUnitAt, book_refusal}
 use Rattle.laws_inputs.specs.SendLaws.{ArePartsOf, IsConf, IsError, IsPath, IsPathTear, IsResv, IsResvTear}
 use Rattle.laws_inputs.specs.WishLaws.{GoesOn}
 use Rattle.laws_inputs.proofs.Asks.{nothing_asked, style_told, units_told}
-use Rattle.laws_inputs.proofs.Framing.{act_paths, act_senders}
+use Rattle.laws_inputs.proofs.Framing.{act_advertised, act_paths, act_senders}
+use Rattle.laws_inputs.proofs.Leaving.{forgetting_by_names}
 use Rattle.laws_inputs.proofs.Lists.{one_name}
 use Rattle.laws_inputs.proofs.Stepping.{send_told}
+use Rattle.laws_inputs.proofs.Taking.{units_one_by_one}
 use Rattle.laws_inputs.proofs.Tests.{addr_tested, not_new, parts_tested}
 use Rattle.laws_inputs.proofs.Wholes.{resvs_in_steps, units_in_full}
 use Rattle.laws_inputs.proofs.Wishing.{wishes_are_granted}
 use Rattle.laws_bounds.proofs.Folding.{names_listed, unit_shape}
+use Rattle.laws_bounds.proofs.Putting.{style_same}
 use Rattle.laws_steps.specs.AcceptingLaws.{CanBeTaken, came_resv}
+use Rattle.laws_steps.specs.ReservationLaws.{IsAskedFor}
 use Rattle.laws_steps.proofs.Admitting.{what_is_accepted}
+use Rattle.laws_steps.proofs.Asking.{where_a_reservation_fact_comes_from}
 use Rattle.laws_steps.proofs.Speaking.{send_made}
 use Rattle.laws_safety.proofs.Arrivals.{passed}
 use Rattle.laws_network.proofs.Known.{has_some, of_some}
@@ -53,15 +59,16 @@ use Rattle.router_rules.specs.Asking.{lost, matched, names_that_match, nothing_t
 use Rattle.router_rules.specs.Asking.{take_unit, take_units, taking, tell_lost}
 use Rattle.router_rules.specs.Bounds.{IsWithinBounds}
 use Rattle.router_rules.specs.Confirming.{speaks_of}
-use Rattle.router_rules.specs.Facts.{Facts, ResvState, resvs_of}
-use Rattle.router_rules.specs.Inputs.{Asked, Change, ConfSend, ErrMsg, ErrSend, Input, OfPath, OfResv, Send, in_order, put_in_order}
-use Rattle.router_rules.specs.Known.{Lane, known, lanes}
+use Rattle.router_rules.specs.Facts.{Facts, ResvState, Resvs, resvs_of}
+use Rattle.router_rules.specs.Forgetting.{is_lost}
+use Rattle.router_rules.specs.Inputs.{Asked, Came, Change, ConfSend, ErrMsg, ErrSend, Input, OfPath, OfResv, Send, Spelt, in_order, put_in_order}
+use Rattle.router_rules.specs.Known.{Lane, known, lanes, named_as}
 use Rattle.router_rules.specs.NodeConfig.{NodeConfig, goes_out, own}
 use Rattle.router_rules.specs.Offers.{Offer, Offers, offers}
 use Rattle.router_rules.specs.Requests.{toward}
 use Rattle.router_rules.specs.Rule.{settled}
 use Rattle.router_rules.specs.Sends.{conf_send, confirm_for, confirmed, goes_on, is_changed, is_new_offer, once, resv_send, without_scope}
-use Rattle.router_rules.specs.Steps.{facts_then, sent_then}
+use Rattle.router_rules.specs.Steps.{IsLeftOf, facts_then, node_step, sent_then}
 
 -- ---- what is heard as taken had no error and left nothing out
 put_some : (x : ErrSend) (ys : List ErrSend) → (z : ErrSend) × (zs : List ErrSend) × (put_in_order err_places err_place x ys ≡ z ∷ zs)
@@ -103,6 +110,24 @@ some_unit (ask.Fixed list) proper = by list.rows proper.some
     by [] h = absurd (omega (arith, h))
     by (e ∷ es) h = (fixed_unit e, inl refl)
 
+-- no two units of it are the same
+pub one_unit : (a : Ask) (u v : AskedUnit) → In u (asked_units a) → In v (asked_units a) → u.unit ≡ v.unit → u ≡ v
+one_unit (ask.Wild scope flow) u v i j e = alone u i ∙ sym (alone v j)
+  where
+    alone : (z : AskedUnit) → In z (record { unit = One; names = scope; flow = flow } ∷ []) → z ≡ record { unit = One; names = scope; flow = flow }
+    alone z k = ⊎_elim (λ (is : z ≡ record { unit = One; names = scope; flow = flow }). is) (λ (no : ⊥). absurd no) k
+one_unit (ask.Shared part) u v i j e = alone u i ∙ sym (alone v j)
+  where
+    alone : (z : AskedUnit) → In z (record { unit = One; names = Some part.senders; flow = part.flow } ∷ []) → z ≡ record { unit = One; names = Some part.senders; flow = part.flow }
+    alone z k = ⊎_elim (λ (is : z ≡ record { unit = One; names = Some part.senders; flow = part.flow }). is) (λ (no : ⊥). absurd no) k
+one_unit (ask.Fixed list) u v i j e =
+    let a = in_each fixed_unit u list.rows i in
+    let b = in_each fixed_unit v list.rows j in
+    let units_are : Of a.0.0 ≡ Of b.0.0 = sym (ap (λ (z : AskedUnit). z.unit) a.2) ∙ e ∙ ap (λ (z : AskedUnit). z.unit) b.2 in
+    let sender : a.0.0 ≡ b.0.0 = cc in
+    let flow : a.0.1 ≡ b.0.1 = of_some a.0.1 b.0.1 (sym (in_found senders list a.0.0 a.0.1 a.1) ∙ ap (λ (z : Sender). get list z) sender ∙ in_found senders list b.0.0 b.0.1 b.1) in
+    a.2 ∙ (λ t. fixed_unit (sender t, flow t)) ∙ sym b.2
+
 -- ---- what counts as taken stays so
 module _ (p : NodeConfig) (o : Asker) (f : Facts) (all : Names) where
   put_has : (u : UnitOf) (part : Part) (b : Bool) (why : Option Refused) (t : Taking) (k : UnitOf) → has t.taken k ≡ true → has (put_tested p o f u part b why t).taken k ≡ true
@@ -142,6 +167,13 @@ without_units (ask.Shared part) u i = (u, i, refl)
 
 pub in_only : (x y : Sender) → has (only x) y ≡ true → y ≡ x
 in_only x y h = ⊎_elim (λ (e : y ≡ x). e) (λ (no : ⊥). absurd no) (set_of_in senders (x ∷ []) y h)
+
+with_units : (a : Ask) (v : AskedUnit) → In v (asked_units a) → (u : AskedUnit) × In u (asked_units (without_scope a)) × (u.unit ≡ v.unit) × (u.flow ≡ v.flow)
+with_units (ask.Wild scope flow) v i =
+    let is : v ≡ record { unit = One; names = scope; flow = flow } = ⊎_elim (λ (e : v ≡ record { unit = One; names = scope; flow = flow }). e) (λ (no : ⊥). absurd no) i in
+    (record { unit = One; names = None; flow = flow }, inl refl, ap (λ (z : AskedUnit). z.unit) (sym is), ap (λ (z : AskedUnit). z.flow) (sym is))
+with_units (ask.Fixed list) v i = (v, i, refl, refl)
+with_units (ask.Shared part) v i = (v, i, refl, refl)
 
 -- of each list that has a name which a unit of it lists
 speaks_for : (a : Ask) (v : AskedUnit) (ns listed : Names) (x : Sender) → In v (asked_units a) → v.names ≡ Some listed → has listed x ≡ true → has ns x ≡ true → speaks_of (without_scope a) ns ≡ true
@@ -259,6 +291,50 @@ module _ (p : NodeConfig) (c e : ℕ) (m : ResvMsg) (f : Facts) (gs : List Line)
         ∙ units_has p o f all s.1 (take_unit p o f all before u) u.unit
         (ap (λ (t : Taking). has t.taken u.unit) (units_in_full.taken p o f all before u part part_is room open_to) ∙ ap is_some (get-put_in_same units before.taken u.unit part))
 
+  -- ---- a reservation that no unit of it is for stays as it is
+  abbrev pub IsBeside : StyleKind → LineKey → Type 0
+  IsBeside st k = (u : AskedUnit) → In u us → st ≡ ask_style m.ask → k ≡ key_at o u.unit → ⊥
+
+  table_beside : (st : StyleKind) (k : LineKey) → IsBeside st k → get (resvs_of st change.facts) k ≡ get (resvs_of st f) k
+  table_beside st k beside =
+      ap (λ (z : Change). get (resvs_of st z.facts) k) act_is
+      ∙ ⊎_elim
+      (λ (same : st ≡ ask_style m.ask).
+      ap (λ (z : StyleKind). get (resvs_of z (act_resv p c e m f).facts) k) same ∙ ap (λ (t : Resvs). get t k) (resvs_in_steps.table p c e m f) ∙ ap (λ (t : Taking). get t.table k) taking_is
+      ∙ units_one_by_one.others p o f all us first k (λ u i is. beside u i same is) ∙ ap (λ (z : StyleKind). get (resvs_of z f) k) (sym same))
+      (λ (other : st ≡ ask_style m.ask → ⊥). ap (λ (t : Resvs). get t k) (resvs_in_steps.others p c e m f st other)) (style_same st (ask_style m.ask))
+
+  -- by itself a Resv leaves senders and paths, so no name is forgotten
+  none_lost : (st : StyleKind) (s : Session) (x : Sender) → is_lost st f change.facts s x ≡ false
+  none_lost st s x =
+      let from = sym (act_senders p c input f refl) in
+      let paths = sym (act_paths p c input f refl) in
+      not_both (has (named_as st (known f s)) x) (has (named_as st (known change.facts s)) x) (λ j. has (named_as st (known (record f { senders = from j; paths = paths j }) s)) x)
+    where
+      not_both : (a b : Bool) → a ≡ b → (a && not b) ≡ false
+      not_both true b e = ap not (sym e)
+      not_both false b e = refl
+
+  beside_stays : (st : StyleKind) (k : LineKey) (r : ResvState) → IsBeside st k → get (resvs_of st f) k ≡ Some r → get (resvs_of st (facts_then p p c input f)) k ≡ Some r
+  beside_stays st k r beside there =
+      forgetting_by_names.stays f change.facts st k r (table_beside st k beside ∙ there) (within.shapes.resvs st k r there).style.named (λ x h. none_lost st k.0 x)
+
+  pub beside_same : (st : StyleKind) (k : LineKey) → IsBeside st k → get (resvs_of st f) k ≡ get (resvs_of st (facts_then p p c input f)) k
+  beside_same st k beside = by (get (resvs_of st f) k) (get (resvs_of st (facts_then p p c input f)) k) refl refl
+    where
+      by : (a b : Option ResvState) → get (resvs_of st f) k ≡ a → get (resvs_of st (facts_then p p c input f)) k ≡ b → get (resvs_of st f) k ≡ get (resvs_of st (facts_then p p c input f)) k
+      by (Some r) b h h' = h ∙ sym (beside_stays st k r beside h)
+      by None None h h' = h ∙ sym h'
+      by None (Some z) h h' =
+          ⊎_elim (λ (old : (r : ResvState) × (get (resvs_of st f) k ≡ Some r) × IsLeftOf r z). let bad : None ≡ Some old.0 = sym h ∙ old.1 in absurd (cc))
+          (λ (new : IsAskedFor p c input f st k z).
+          let came : Came e (own p e) (Spelt (message.Resv m)) ≡ Came k.1.0.0 (own p k.1.0.0) (Spelt (message.Resv new.by.resv)) = new.by.came in
+          let same : m ≡ new.by.resv = cc in
+          let at : e ≡ k.1.0.0 = cc in
+          absurd (beside new.unit (subst (λ (w : ResvMsg). In new.unit (asked_units w.ask)) (sym same) new.asks) (sym new.by.style ∙ ap (λ (w : ResvMsg). ask_style w.ask) (sym same))
+          (λ j. ((sym new.by.session ∙ ap (λ (w : ResvMsg). w.session) (sym same)) j, ((sym at j, (sym new.by.next ∙ ap (λ (w : ResvMsg). w.hop.addr) (sym same)) j), sym new.at j)))))
+          (where_a_reservation_fact_comes_from (node_step p p c c input f) within st k z h')
+
   -- ---- what was taken, as a ResvConf says it
   record TookUnit (u : UnitOf) (part : Part) : Type 0 where
     unit : AskedUnit
@@ -301,6 +377,8 @@ module _ (p : NodeConfig) (c e : ℕ) (m : ResvMsg) (f : Facts) (gs : List Line)
     pub speaks : (ns : Names) → has ns name ≡ true → speaks_of conf.ask ns ≡ true
     -- each flow of it is one that the Resv asks for
     pub flows : (v : AskedUnit) → In v (asked_units conf.ask) → (z : AskedUnit) × In z us × (v.flow ≡ z.flow)
+    -- and each unit of the Resv is confirmed
+    pub units : (z : AskedUnit) → In z us → (v : AskedUnit) × In v (asked_units conf.ask) × (v.unit ≡ z.unit) × (v.flow ≡ z.flow)
 
   abbrev pub asked : Asked
   asked = record { session = m.session; confirm = a; iface = e; hop = m.hop.addr; taken = ask_of (ask_style m.ask) (taking p c e m f).taken }
@@ -358,6 +436,14 @@ module _ (p : NodeConfig) (c e : ℕ) (m : ResvMsg) (f : Facts) (gs : List Line)
               let k = (units_told (ask_style m.ask) (taking p c e m f).taken taken b.0 of_style what).0 b.1 in
               let d = took_unit b.0.unit k.part k.there in
               (d.unit, d.asks, b.2 ∙ k.flow ∙ (made_of (names_that_match d.unit.names all) d.unit.flow k.part d.some).flow);
+          units = λ z i.
+              let b = has_some (get (taking p c e m f).taken z.unit) (took z i) in
+              let d = took_unit z.unit b.0 b.1 in
+              let same : d.unit ≡ z = one_unit m.ask d.unit z d.asks i (sym d.key) in
+              let w : AskedUnit = record { unit = z.unit; names = Some b.0.senders; flow = b.0.flow } in
+              let there : In w (asked_units taken) = (units_told (ask_style m.ask) (taking p c e m f).taken taken w of_style what).1 (record { part = b.0; there = b.1; names = refl; flow = refl }) in
+              let k = with_units taken w there in
+              (k.0, k.1, k.2, k.3 ∙ (made_of (names_that_match d.unit.names all) d.unit.flow b.0 d.some).flow ∙ ap (λ (o : AskedUnit). o.flow) same);
         },
       )
     where
@@ -384,8 +470,9 @@ module _ (p : NodeConfig) (c e : ℕ) (m : ResvMsg) (f : Facts) (gs : List Line)
   same_offers : offers p f ≡ offers p after
   same_offers =
       let from = sym (act_senders p c input f refl) in
+      let told = sym (act_advertised p c input f refl) in
       let paths = sym (act_paths p c input f refl) in
-      λ j. offers p (record f { senders = from j; paths = paths j })
+      λ j. offers p (record f { senders = from j; advertised = told j; paths = paths j })
 
   -- a Resv, which asks for the same, where something changed
   pub record IsPassedOn (s : Send) : Type 0 where
@@ -395,6 +482,7 @@ module _ (p : NodeConfig) (c e : ℕ) (m : ResvMsg) (f : Facts) (gs : List Line)
     pub lane : Lane
     pub there : has (lanes after) lane ≡ true
     pub session : resv.session ≡ lane.session
+    pub dst : s.dst ≡ lane.hop.1
     pub hop : resv.hop.addr ≡ own p lane.hop.0
     pub changed : toward p f lane ≡ toward p after lane → ⊥
     pub whole : ask_of lane.style (toward p after lane) ≡ Some resv.ask
@@ -425,6 +513,7 @@ module _ (p : NodeConfig) (c e : ℕ) (m : ResvMsg) (f : Facts) (gs : List Line)
         lane = x.lane;
         there = x.there;
         session = refl;
+        dst = ap (λ (z : Send). z.dst) is;
         hop = refl;
         changed = λ same. let bad : true ≡ false = sym changed_one ∙ ap not (parts_tested (toward p f x.lane) (toward p after x.lane) same) in cc;
         whole = x.whole;

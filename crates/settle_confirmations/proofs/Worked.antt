@@ -78,7 +78,7 @@ an_answer_leaves_out = record { text = refl; asked = refl; answered = refl }
 
 pub two_ends_hear_nothing : TwoEndsHearNothing
 unfolding facts_with
-two_ends_hear_nothing = record { text = refl }
+two_ends_hear_nothing = record { text = refl; fixed = refl }
 
 pub two_receivers_ask_at_once : TwoReceiversAskAtOnce
 unfolding facts_with

@@ -3,7 +3,9 @@ use Rattle.std.specs.Prelude.{◌≡◌, ℕ, List, [], ◌∷◌, true, Some}
 use Rattle.rsvp_base.specs.declared.session.Sender.{Sender}
 use Rattle.rsvp_base.specs.declared.session.Session.{Session}
 use Rattle.rsvp_base.specs.declared.style.StyleKind.{StyleKind}
+use Rattle.rsvp_base.specs.declared.style.StyleKind.TheVariants.{Fixed}
 use Rattle.rsvp_base.specs.declared.style.Unit.{Unit as UnitOf}
+use Rattle.rsvp_base.specs.declared.style.Unit.TheVariants.{Of}
 use Rattle.rsvp_base.specs.Members.{In}
 use Rattle.rsvp_base.specs.Orders.{Names}
 use Rattle.rsvp_base.specs.Styles.{name_of}
@@ -71,6 +73,31 @@ pub record IsAnswered (s : Session) (st : StyleKind) (x : Sender) (flow : TokenB
   pub confirm : conf.confirm ≡ addr_of w.net e
   pub speaks : (names : Names) → has names (name_of st x) ≡ true → speaks_of conf.ask names ≡ true
   pub covers : (u : AskedUnit) → In u (asked_units conf.ask) → IsAtMost flow u.flow
+
+-- ---- a fixed filter for several senders at once
+-- the paths of these senders, where they come to the node, come by this end
+abbrev pub ComeByOneEnd : World → ℕ → Session → Names → ℕ → Type 0
+ComeByOneEnd w n s names e =
+    (x : Sender) (t : TokenBucket) (h : LinkHop) → has names x ≡ true → IsLive w (s, x) t → In h (tree w.net.hops s.group x.addr) → node_of w.net.ends h.to ≡ n → h.to ≡ e
+
+-- a ResvConf of the session with a fixed filter comes to the end by the step, for the address of the end. It confirms one of these senders,
+-- and no smaller flow of it; of the others it may say nothing
+pub record IsAnsweredForOne (s : Session) (names : Names) (flow : TokenBucket) (e : ℕ) (t : Step) (w : World) : Type 0 where
+  pub item : Item
+  pub conf : ResvConfMsg
+  pub arrives : arrived t w ≡ Some item
+  pub says : item.arrival ≡ Spelt (message.ResvConf conf)
+  pub end : item.end ≡ e
+  pub dst : item.dst ≡ addr_of w.net e
+  pub session : conf.session ≡ s
+  pub style : ask_style conf.ask ≡ Fixed
+  pub confirm : conf.confirm ≡ addr_of w.net e
+  pub sender : Sender
+  pub among : has names sender ≡ true
+  pub unit : AskedUnit
+  pub confirms : In unit (asked_units conf.ask)
+  pub of : unit.unit ≡ Of sender
+  pub covers : IsAtMost flow unit.flow
 
 -- ---- what is held when it comes
 -- hops of the sender's tree, each out of the node that the one before goes into, down to the end

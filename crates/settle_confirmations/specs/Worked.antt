@@ -11,6 +11,7 @@ use Rattle.rsvp_base.specs.declared.style.Unit.TheVariants.{Of, One}
 use Rattle.rsvp_base.specs.Sets.{set_of}
 use Rattle.rsvp_base.specs.Table.{empty}
 use Rattle.rsvp_base.specs.Members.{In}
+use Rattle.rsvp_base.specs.Orders.{Names}
 use Rattle.rsvp_base.specs.TokenBucket.{IsSound, TokenBucket}
 use Rattle.router_rules.specs.Steps.{IsFitList}
 use Rattle.tree_model.specs.declared.hops.TreeHop.{TreeHop}
@@ -28,7 +29,7 @@ use Rattle.settle_resvs.specs.SoftResvs.{resv_at}
 use Rattle.settle_network.specs.Settled.{HasSettled}
 use Rattle.settle_passes.specs.Reserving.{AsksNoLess, after_want}
 use Rattle.settle_passes.specs.Worked.{heard_world}
-use Rattle.settle_confirmations.specs.Requests.{IsOnlySender, arrival_units}
+use Rattle.settle_confirmations.specs.Requests.{ComeByOneEnd, IsOnlySender, arrival_units}
 
 -- the units that what is in flight asks for, or confirms, and their flows
 abbrev pub units_in : World → List UnitOf
@@ -107,6 +108,26 @@ pub record AnAnswerLeavesOut : Type 0 where
   pub asked : units_in (last_world (both_send (wants_both []))) ≡ Of first ∷ Of theirs ∷ []
   pub answered : units_in (last_world (both_send (wants_both (Pass 3 ∷ [])))) ≡ Of first ∷ []
 
+-- ---- a receiver asks in the pair for two senders with a fixed filter, one of which sends: the premises of the law of fixed filters
+abbrev pub both_names : Names
+both_names = set_of (first ∷ second ∷ [])
+
+abbrev pub filtered_world : World
+filtered_world = after_want 7500 1 session Fixed both_names usual true heard_world
+
+pub record AFixedFilterHears : Type 0 where
+  pub begins : IsStart 7500 heard_world
+  pub settled : HasSettled 7500 heard_world
+  pub quiet : heard_world.flight ≡ []
+  pub one_end : ComeByOneEnd heard_world 1 session both_names 1
+  pub list : IsFitList Fixed both_names
+  pub flow : IsSound usual
+  pub no_less : AsksNoLess heard_world 1 session Fixed both_names usual true
+  pub fit : DemandsFit heard_world.net (locals_of filtered_world)
+  pub sends : (y : Item) × In y filtered_world.flight
+  -- what is asked for
+  pub asked : units_in filtered_world ≡ Of first ∷ []
+
 -- ---- a host with two ends, by which the paths of two senders come; where their ways part and meet again, each address to confirm takes
 -- the place of the other somewhere
 abbrev pub u2 : Addr
@@ -128,6 +149,10 @@ two_ends events =
 pub record TwoEndsHearNothing : Type 0 where
   pub text : run_text (two_ends (AtNode 0 (SendAs session first usual) ∷ AtNode 0 (SendAs session (record { addr = u2; port = 5004 }) usual) ∷ Pass 8
       ∷ AtNode 6 (WantAs session Wild empty (flow 300 600 64 1500) true) ∷ Pass 5 ∷ Traces true ∷ Pass 7 ∷ []))
+      ≡ codes "u1 Resv taken\nb1 ResvConf dropped NoState\nb1 ResvConf taken\na1 ResvConf taken\ne1 ResvConf taken\nd2 ResvConf dropped NoState\n"
+  -- and so it is with a fixed filter for both
+  pub fixed : run_text (two_ends (AtNode 0 (SendAs session first usual) ∷ AtNode 0 (SendAs session (record { addr = u2; port = 5004 }) usual) ∷ Pass 8
+      ∷ AtNode 6 (WantAs session Fixed (set_of (first ∷ record { addr = u2; port = 5004 } ∷ [])) (flow 300 600 64 1500) true) ∷ Pass 5 ∷ Traces true ∷ Pass 7 ∷ []))
       ≡ codes "u1 Resv taken\nb1 ResvConf dropped NoState\nb1 ResvConf taken\na1 ResvConf taken\ne1 ResvConf taken\nd2 ResvConf dropped NoState\n"
 
 -- ---- one sender. Two receivers behind one router ask at once, H = 3: the router above forgets the address of the first

@@ -3,6 +3,7 @@ ghost use Rattle.std.specs.Prelude.{◌≡◌, ◌*◌, ◌<◌, ℕ, [], length
 ghost use Rattle.rsvp_base.specs.declared.session.Sender.{Sender};
 ghost use Rattle.rsvp_base.specs.declared.session.Session.{Session};
 ghost use Rattle.rsvp_base.specs.declared.style.StyleKind.{StyleKind};
+ghost use Rattle.rsvp_base.specs.declared.style.StyleKind.TheVariants.{Fixed};
 ghost use Rattle.rsvp_base.specs.Members.{In};
 ghost use Rattle.rsvp_base.specs.Orders.{Names};
 ghost use Rattle.rsvp_base.specs.TokenBucket.{IsSound, TokenBucket};
@@ -18,7 +19,7 @@ ghost use Rattle.network_model.specs.Steps.{machine};
 ghost use Rattle.network_model.specs.Worlds.{Item, World};
 ghost use Rattle.settle_network.specs.Settled.{HasSettled};
 ghost use Rattle.settle_passes.specs.Reserving.{AsksNoLess, IsReserving, after_want};
-ghost use Rattle.settle_confirmations.specs.Requests.{IsAnswered, IsConfirmed, IsForAtLeast, IsOnlySender, IsRequest};
+ghost use Rattle.settle_confirmations.specs.Requests.{ComeByOneEnd, IsAnswered, IsAnsweredForOne, IsConfirmed, IsForAtLeast, IsOnlySender, IsRequest};
 
 /// Requests for a confirmation are answered: in a network that sets up the reservations of a session with one sender, and in which all that
 /// is in flight are requests of one end, for each of them a ResvConf comes to that end within 2 H passes, speaks of the sender, and confirms
@@ -52,4 +53,17 @@ pub fn what_is_confirmed_is_held()
         → (y : Item) → In y (after_want q n s st names flow true w).flight
         → (e : ℕ) × (node_of w.net.ends e ≡ n)
         × Happens (machine q) (IsConfirmed q s st x flow e) (passes q (2 * longest w.net) (after_want q n s st names flow true w)) (after_want q n s st names flow true w) }
+{}
+
+/// With a fixed filter a receiver may ask for several senders at once, and for one of them at least it is answered within 2 H passes: in a
+/// settled network within bounds with hosts, in which nothing is in flight and whose demands fit, where the paths of these senders that come
+/// to its node come by one end, the receiver asks for no less than its node did before, the demands fit then too, and its node sends something
+/// for the call. The ResvConf comes to that end, for its address, and confirms one of these senders with at least what the receiver asks for,
+/// whoever else sends and whatever other receivers want. The other senders of the call it need not confirm: of one for which nothing new goes
+/// on, as of one that stands already further up, it may say nothing.
+pub fn a_fixed_filter_is_answered()
+    ensures { (q n : ℕ) (s : Session) (names : Names) (flow : TokenBucket) (e : ℕ) (w : World) → IsStart q w → HasSettled q w → w.flight ≡ [] → ComeByOneEnd w n s names e
+        → IsFitList Fixed names → IsSound flow → AsksNoLess w n s Fixed names flow true → DemandsFit w.net (locals_of (after_want q n s Fixed names flow true w))
+        → (y : Item) → In y (after_want q n s Fixed names flow true w).flight
+        → Happens (machine q) (IsAnsweredForOne s names flow e) (passes q (2 * longest w.net) (after_want q n s Fixed names flow true w)) (after_want q n s Fixed names flow true w) }
 {}

@@ -1,5 +1,5 @@
 //! Worked rows: small networks, by computing.
-ghost use Rattle.settle_confirmations.specs.Worked.{AReceiverHasItAlready, AReceiverHears, AReceiverTurnsAway, ARequestIsRefused, AnAnswerIsEarly, AnAnswerIsForMore};
+ghost use Rattle.settle_confirmations.specs.Worked.{AFixedFilterHears, AReceiverHasItAlready, AReceiverHears, AReceiverTurnsAway, ARequestIsRefused, AnAnswerIsEarly, AnAnswerIsForMore};
 ghost use Rattle.settle_confirmations.specs.Worked.{AnAnswerLeavesOut, AnAnswerSpeaksOfAnother, LessIsConfirmed, TwoEndsHearNothing, TwoReceiversAskAtOnce};
 
 /// A receiver in a pair of nodes meets the premises of `a_receiver_is_answered` and of `what_is_confirmed_is_held`; and in a line of two hops
@@ -20,9 +20,14 @@ pub fn an_answer_leaves_out()
     ensures { AnAnswerLeavesOut }
 {}
 
+/// A receiver in a pair of nodes meets the premises of `a_fixed_filter_is_answered`: it asks for two senders, one of which sends.
+pub fn a_fixed_filter_hears()
+    ensures { AFixedFilterHears }
+{}
+
 /// Nor with a wildcard filter, where one host sends by two addresses: by two ends of a receiver come the paths of two senders, and it asks by
 /// both; where their ways part and meet again, a router forgets the one address to confirm for the other, on one link this one and on
-/// another one that, and both answers are dropped.
+/// another one that, and both answers are dropped. So it is with a fixed filter for both, whose paths do not come by one end.
 pub fn two_ends_hear_nothing()
     ensures { TwoEndsHearNothing }
 {}
