@@ -1,15 +1,16 @@
 -- A text that was read, and whose line was added or refused.
-use Rattle.std.specs.Prelude.{◌≡◌, ℕ, ◌≤◌, List, Option, Some, Result, Ok, Err, IfErr, IfOk, OnOk, length}
+use Rattle.std.specs.Prelude.{◌≡◌, ℕ, ◌≤◌, List, [], ◌∷◌, Option, None, Some, Result, Ok, Err, IfErr, IfOk, OnOk, length, slice_get}
 use Rattle.network_model.specs.declared.event.Event.{Event}
 use Rattle.std.proofs.Common.{inr, refl}
 use Rattle.script_grammar.specs.Adds.{Adds}
 use Rattle.script_grammar.specs.Asking.{AsksMemory}
 use Rattle.script_grammar.specs.Draft.{Draft}
 use Rattle.script_grammar.specs.Grammar.{broken, most_line}
-use Rattle.script_grammar.specs.LineKinds.{script_line_of}
+use Rattle.script_grammar.specs.LineKinds.{said_by, script_line_of}
 use Rattle.script_grammar.specs.Rules.{Keeps, KeepsAll}
 use Rattle.script_grammar.specs.declared.line.ScriptLine.{ScriptLine}
-use Rattle.script_run.specs.Checking.{Feeds}
+use Rattle.script_grammar.specs.declared.line.ScriptLine.TheVariants.{Skipped}
+use Rattle.script_run.specs.Checking.{Feeds, IsLineTaken}
 use Rattle.script_grammar.specs.GivenEvents.{IsGiven}
 use Rattle.script_grammar.specs.declared.stop.Stop.{Stop}
 use Rattle.script_grammar.specs.declared.stop.Stop.TheVariants.{Bad, Crowded, NoMemory}
@@ -22,3 +23,21 @@ fed d text said short reads (Ok e) new added given refused asked same = record {
 fed d text said short reads (Err (Bad why)) new added given refused asked same = (broken said why short reads refused, same)
 fed d text said short reads (Err Crowded) new added given refused asked same = absurd refused
 fed d text said short reads (Err NoMemory) new added given refused asked same = inr (record { said = said; reads = reads; asks = asked refl })
+
+-- ---- a line that says nothing
+pub empty_said : (line : List ℕ) → None ≡ slice_get line 0 → script_line_of line ≡ Some Skipped
+unfolding said_by
+empty_said [] e = refl
+empty_said (x ∷ xs) e = cc
+
+pub skipped : (d : Draft) (text : List ℕ) → length text ≤ most_line → script_line_of text ≡ Some Skipped → IsLineTaken d text None d
+skipped d text short reads = record {
+  follows = record {
+    short = short;
+    said = Skipped;
+    reads = reads;
+    valid = record { in_time = tt; in_range = tt; known = tt; new = tt; of_style = tt; within_limits = tt; of_tree = tt; within_capacity = tt; loop_free = tt };
+    adds = refl;
+  };
+  event = refl;
+}

@@ -27,7 +27,7 @@ use Rattle.script_grammar.specs.LineKinds.{Kinds, as_wild, at_nodes, by_first, b
 use Rattle.script_grammar.specs.LineKinds.{is_comment, left_over, script_line_of, link_line, lone_number, node_line, numbered, others, pairs_of, pass_line, path_of, period_line, quit_line}
 use Rattle.script_grammar.specs.LineKinds.{report_line, reroute_line, resv_of, said_at_node, said_by, said_in_flight, said_left_over, said_other, seed_line, send_line, sender_wall}
 use Rattle.script_grammar.specs.LineKinds.{some_bytes, stale_blockade_line, stale_hop, stale_path_line, stale_resv_line, stale_sender, stale_senders, trace_line, want_line, want_of}
-use Rattle.script_grammar.specs.LineKinds.{want_senders, wild_word}
+use Rattle.script_grammar.specs.LineKinds.{advert_line, adverts_line, latency_line, want_senders, wild_word}
 use Rattle.script_grammar.specs.declared.line.ScriptLine.{ScriptLine}
 use Rattle.script_grammar.specs.declared.line.ScriptLine.TheVariants as line
 use Rattle.script_checker.specs.Forms.{Formed}
@@ -142,6 +142,11 @@ end_good (name ∷ node ∷ addr ∷ capacity ∷ mtu ∷ []) =
     on_read (name_of name) _ (λ n _. on_read (name_of node) _ (λ m _. on_read (quad_of addr) _ (λ a _. on_read (number_of capacity) _ (λ c _. on_read (number_of mtu) _ (λ u _. tt)))))
 end_good _ = tt
 
+latency_good : (ws : List (List ℕ)) → Good (latency_line ws)
+unfolding latency_line
+latency_good (end ∷ latency ∷ []) = on_read (name_of end) _ (λ e _. on_read (number_of latency) _ (λ n _. tt))
+latency_good _ = tt
+
 link_good : (ws : List (List ℕ)) → Good (link_line ws)
 unfolding link_line
 link_good ws = choose (nat_le 2 (length ws) && nat_le (length ws) 8) _ None (λ e. on_read (each_of name_of ws) _ (λ names read. tt)) tt
@@ -198,6 +203,11 @@ unfolding drop_line
 drop_good (node ∷ session ∷ sender ∷ []) = on_read (name_of node) _ (λ n _. on_read (session_of session) _ (λ s _. on_read (sender_of sender) _ (λ x _. tt)))
 drop_good _ = tt
 
+advert_good : (ws : List (List ℕ)) → Good (advert_line ws)
+unfolding advert_line
+advert_good (node ∷ session ∷ sender ∷ []) = on_read (name_of node) _ (λ n _. on_read (session_of session) _ (λ s _. on_read (sender_of sender) _ (λ x _. tt)))
+advert_good _ = tt
+
 want_of_good : (node session style senders flow : List ℕ) (confirm : Bool) → Good (want_of node session style senders flow confirm)
 unfolding want_of
 want_of_good node session style senders flow confirm =
@@ -243,6 +253,11 @@ unfolding flags_line
 flags_good [] = tt
 flags_good _ = tt
 
+adverts_good : (ws : List (List ℕ)) → Good (adverts_line ws)
+unfolding adverts_line
+adverts_good [] = tt
+adverts_good _ = tt
+
 inject_good : (ws : List (List ℕ)) → AreShort most_line ws → Good (inject_line ws)
 unfolding inject_line
 inject_good (end ∷ addr ∷ digits ∷ []) short =
@@ -271,7 +286,10 @@ by_first_good (kind ∷ more) other h k first behind short = choose (bytes_eq fi
 
 others_good : (f : List ℕ) (ws : List (List ℕ)) → AreShort most_line ws → Good (said_other f ws)
 unfolding AreGood said_other
-others_good = by_first_good others (λ f b. None) ((λ ws _. trace_good ws), ((λ ws _. report_good ws), ((λ ws _. flags_good ws), ((λ ws _. reroute_good ws), tt)))) (λ f b short. tt)
+others_good = by_first_good others (λ f b. None) (
+  (λ ws _. trace_good ws),
+  ((λ ws _. report_good ws), ((λ ws _. flags_good ws), ((λ ws _. adverts_good ws), ((λ ws _. reroute_good ws), tt)))),
+) (λ f b short. tt)
 
 flight_good : (f : List ℕ) (ws : List (List ℕ)) → AreShort most_line ws → Good (said_in_flight f ws)
 unfolding AreGood said_in_flight
@@ -289,7 +307,10 @@ flight_good =
 
 nodes_good : (f : List ℕ) (ws : List (List ℕ)) → AreShort most_line ws → Good (said_at_node f ws)
 unfolding AreGood said_at_node
-nodes_good = by_first_good at_nodes said_in_flight ((λ ws _. send_good ws), ((λ ws _. drop_good ws), ((λ ws _. want_good ws), ((λ ws _. quit_good ws), ((λ ws _. clear_good ws), tt))))) flight_good
+nodes_good = by_first_good at_nodes said_in_flight (
+  (λ ws _. send_good ws),
+  ((λ ws _. drop_good ws), ((λ ws _. advert_good ws), ((λ ws _. want_good ws), ((λ ws _. quit_good ws), ((λ ws _. clear_good ws), tt))))),
+) flight_good
 
 left_good : (f : List ℕ) (ws : List (List ℕ)) → AreShort most_line ws → Good (said_left_over f ws)
 unfolding AreGood said_left_over
@@ -300,7 +321,7 @@ unfolding AreGood said_by
 said_good [] short = tt
 said_good (first ∷ behind) short = by_first_good declared said_left_over (
   (λ ws _. period_good ws),
-  ((λ ws _. seed_good ws), ((λ ws _. node_good ws), ((λ ws _. end_good ws), ((λ ws _. link_good ws), ((λ ws _. hop_good ws), tt))))),
+  ((λ ws _. seed_good ws), ((λ ws _. node_good ws), ((λ ws _. end_good ws), ((λ ws _. latency_good ws), ((λ ws _. link_good ws), ((λ ws _. hop_good ws), tt)))))),
 ) left_good first behind (λ w i. short w (inr i))
 
 pub formed : (text : List ℕ) (said : ScriptLine) → length text ≤ most_line → script_line_of text ≡ Some said → Formed said

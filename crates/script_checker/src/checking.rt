@@ -1,7 +1,10 @@
 //! Lines are checked as the player of a script asks.
-ghost use Rattle.std.specs.Prelude.{◌≡◌, ◌↔◌, IfOk, IsTrue, map};
+ghost use Rattle.std.specs.Prelude.{◌≡◌, ◌↔◌, ◌≤◌, IfOk, IsTrue, Some, length, map};
 ghost use Rattle.script_grammar.specs.Draft.{end_number, node_number};
+ghost use Rattle.script_grammar.specs.LineKinds.{script_line_of};
 ghost use Rattle.script_grammar.specs.Values.{hop_value};
+ghost use Rattle.script_grammar.specs.declared.line.ScriptLine.TheVariants as said;
+ghost use Rattle.script_run.specs.Checking.{Feeds};
 ghost use Rattle.script_state.specs.Said.{draft_of};
 ghost use Rattle.script_advice.specs.Breaks.{IsLinked};
 
@@ -70,13 +73,11 @@ impl LinesBefore for Checker {
 
 impl Checks for Checker {
     fn feed(&mut self, line: &[u8]) -> Result<Option<Event>, Stop> {
-        let alloc = self.state.alloc;
-        let mut words = Vec::new(alloc);
-        match read_line(alloc, line, &mut words) {
-            Ok(said) => add(&mut self.state, said),
-            Err(Unread::Word) => Err(Stop::Bad(Fault::Word)),
-            Err(Unread::NoMemory) => Err(Stop::NoMemory),
+        // Most lines of a long script that say nothing are empty: no words are looked for in them.
+        if is_skipped(line) {
+            return Ok(None);
         }
+        take(&mut self.state, line)
     }
 
     fn start(&self) -> Result<Start, NoMemory> {
@@ -91,6 +92,30 @@ impl Checks for Checker {
 
     fn left(&self) -> &[LeftOver] {
         self.state.left.facts()
+    }
+}
+
+// Whether a line is empty or a comment; one of spaces alone says nothing either.
+fn is_skipped(line: &[u8]) -> bool
+    ensures { IsTrue result → script_line_of line.now ≡ Some said.Skipped }
+{
+    match line.first() {
+        None => true,
+        Some(first) => *first == b'#',
+    }
+}
+
+// Takes a line.
+fn take(state: &mut ScriptState, line: &[u8]) -> Result<Option<Event>, Stop>
+    requires { length line.now ≤ 2048 }
+    ensures { Feeds (draft_of state.old) line.now result (draft_of state.new) }
+{
+    let alloc = state.alloc;
+    let mut words = Vec::new(alloc);
+    match read_line(alloc, line, &mut words) {
+        Ok(said) => add(state, said),
+        Err(Unread::Word) => Err(Stop::Bad(Fault::Word)),
+        Err(Unread::NoMemory) => Err(Stop::NoMemory),
     }
 }
 
