@@ -1,5 +1,8 @@
 //! What a Path tells of the path of its sender (RFC 2210, 3.3), and what a router makes of it (RFC 2215, 3).
 use crate::messages::{Writer, be16, be32, rate_of, rate_word};
+use crate::router::Iface;
+use crate::values::INFINITE;
+use std::fmt;
 
 const BROKEN: u32 = 1 << 23;
 
@@ -14,6 +17,17 @@ pub struct Advert {
     pub load: Option<bool>,
     // Whole fragments of other services.
     pub others: Vec<u32>,
+}
+
+// Where what is told of a sender's path comes from.
+#[derive(Clone, PartialEq)]
+pub enum Source {
+    // Nothing is told.
+    Silent,
+    // It begins here: an advertised local sender.
+    Begins,
+    // It came with the Path.
+    Passes(Advert),
 }
 
 // The largest rate that is no larger: 24 bits from the highest one on, and less than 2^46.
@@ -79,8 +93,21 @@ impl Advert {
         }
     }
 
-    // What goes on of it by an interface without latency.
-    pub fn passed(&self, capacity: u64, mtu: u32) -> Advert {
+    // What the node of the sender tells by an interface.
+    pub fn begun(by: &Iface) -> Advert {
+        Advert {
+            broken: false,
+            hops: 1,
+            rate: rate_below(by.capacity),
+            latency: by.latency,
+            mtu: by.mtu,
+            load: Some(false),
+            others: vec![],
+        }
+    }
+
+    // What goes on of it by an interface.
+    pub fn passed(&self, by: &Iface) -> Advert {
         let mut others = self.others.clone();
         let mut at = 0;
         while at < others.len() {
@@ -89,10 +116,42 @@ impl Advert {
         }
         Advert {
             hops: self.hops.saturating_add(1),
-            rate: self.rate.min(rate_below(capacity)),
-            mtu: self.mtu.min(mtu),
+            rate: self.rate.min(rate_below(by.capacity)),
+            latency: self.latency.saturating_add(by.latency),
+            mtu: self.mtu.min(by.mtu),
             others,
             ..self.clone()
+        }
+    }
+}
+
+impl Source {
+    // What is told by an interface.
+    pub fn told(&self, by: &Iface) -> Option<Advert> {
+        match self {
+            Source::Silent => None,
+            Source::Begins => Some(Advert::begun(by)),
+            Source::Passes(kept) => Some(kept.passed(by)),
+        }
+    }
+}
+
+// The words of a line of `adverts`.
+impl fmt::Display for Advert {
+    fn fmt(&self, f: &mut fmt::Formatter) -> fmt::Result {
+        write!(f, "hops {} rate ", self.hops)?;
+        match self.rate {
+            INFINITE => write!(f, "inf")?,
+            rate => write!(f, "{rate}")?,
+        }
+        write!(f, " latency {} mtu {}", self.latency, self.mtu)?;
+        if self.broken {
+            write!(f, " broken")?;
+        }
+        match self.load {
+            None => Ok(()),
+            Some(true) => write!(f, " cl broken"),
+            Some(false) => write!(f, " cl ok"),
         }
     }
 }

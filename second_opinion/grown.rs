@@ -49,6 +49,7 @@ pub fn grow(seed: u64) -> String {
             addr: 10 << 24 | 1 << 16 | (k as u32) << 8 | last,
             capacity: 70_000_000,
             mtu: 1500,
+            latency: 0,
         };
         down[k] = net.add_end(&format!("d{k}"), (k - 1) / 2, iface(1));
         up[k] = net.add_end(&format!("u{k}"), k, iface(2));

@@ -214,6 +214,27 @@ impl Network {
         }
     }
 
+    // What the paths keep that came by each end.
+    pub fn adverts(&mut self) {
+        for e in &self.ends {
+            let node = &self.nodes[e.node];
+            for ((s, x), path) in &node.paths {
+                if let (true, Some(advert)) = (path.iface == e.iface, &path.advert) {
+                    let _ = writeln!(
+                        self.text,
+                        "{} {}/{}/{} {}:{} {advert}",
+                        e.name,
+                        dotted(s.group),
+                        s.proto,
+                        s.port,
+                        dotted(x.addr),
+                        x.port
+                    );
+                }
+            }
+        }
+    }
+
     pub fn routes(&self) -> Vec<HashMap<(Addr, Addr), (Option<u8>, u16)>> {
         let mut all = vec![HashMap::new(); self.nodes.len()];
         for (g, a, from, to) in &self.hops {

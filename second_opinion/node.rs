@@ -92,6 +92,7 @@ impl Fields<'_> {
                 addr: self.number(4)? as u32,
                 capacity: self.number(8)?,
                 mtu: self.number(4)? as u32,
+                latency: 0,
             });
         }
         let mut routes = Vec::new();

@@ -1,5 +1,5 @@
 //! A router: what it keeps, and what each message, local call, wait and new route makes of it (RFC 2205, 2209).
-use crate::adverts::Advert;
+use crate::adverts::{Advert, Source};
 use crate::messages::*;
 use crate::values::*;
 use std::collections::{BTreeMap, BTreeSet, HashMap};
@@ -9,6 +9,8 @@ pub struct Iface {
     pub addr: Addr,
     pub capacity: u64,
     pub mtu: u32,
+    // In microseconds.
+    pub latency: u32,
 }
 
 #[derive(Clone)]
@@ -87,8 +89,8 @@ pub struct Error {
     pub message: Message,
 }
 
-// A sender, its flow, whether it is a local one, and the ADSPEC that came.
-pub type Offers = Vec<(Sender, Flow, bool, Option<Advert>)>;
+// A sender, its flow, whether it is a local one, and where what is told of its path comes from.
+pub type Offers = Vec<(Sender, Flow, bool, Source)>;
 
 #[derive(Default)]
 pub struct Node {
@@ -98,6 +100,8 @@ pub struct Node {
     pub routes: HashMap<(Addr, Addr), (Option<u8>, u16)>,
     pub old: Option<HashMap<(Addr, Addr), (Option<u8>, u16)>>,
     pub senders: BTreeMap<(Session, Sender), Flow>,
+    // Of these, the advertised ones.
+    pub advertised: BTreeSet<(Session, Sender)>,
     pub wants: BTreeMap<(Session, Unit), Want>,
     pub paths: BTreeMap<(Session, Sender), Path>,
     pub resvs: [BTreeMap<(Session, Hop, Unit), Resv>; 3],
@@ -152,10 +156,17 @@ impl Node {
         self.known(s)
             .into_iter()
             .map(|x| match self.senders.get(&(s, x)) {
-                Some(flow) => (x, *flow, true, None),
+                Some(flow) => {
+                    let source = match self.advertised.contains(&(s, x)) {
+                        true => Source::Begins,
+                        false => Source::Silent,
+                    };
+                    (x, *flow, true, source)
+                }
                 None => {
                     let path = &self.paths[&(s, x)];
-                    (x, path.tspec, false, path.advert.clone())
+                    let source = path.advert.clone().map_or(Source::Silent, Source::Passes);
+                    (x, path.tspec, false, source)
                 }
             })
             .collect()
@@ -462,16 +473,15 @@ impl Node {
                         continue;
                     }
                     let by = self.ifaces[iface as usize];
-                    let told =
-                        |a: &Option<Advert>| a.as_ref().map(|a| a.passed(by.capacity, by.mtu));
+                    let told = o.3.told(&by);
                     let same = old >> iface & 1 == 1
-                        && was.is_some_and(|b| b.1 == o.1 && told(&b.3) == told(&o.3));
+                        && was.is_some_and(|b| b.1 == o.1 && b.3.told(&by) == told);
                     if due || !same {
                         let body = Body::Path {
                             police: o.2,
                             period: self.period as u32,
                             sender: Some((o.0, o.1)),
-                            advert: told(&o.3),
+                            advert: told,
                         };
                         out.push(self.to_group(*s, iface, body));
                     }

@@ -74,7 +74,7 @@ pub fn wants(st: Style, names: &Names, f: Flow, confirm: bool) -> Vec<(Unit, Wan
 
 pub fn part_of(first: &str) -> u8 {
     match first {
-        "period" | "seed" | "node" | "end" | "link" | "hop" => 1,
+        "period" | "seed" | "node" | "end" | "latency" | "link" | "hop" => 1,
         "stale-path" | "stale-resv" | "stale-blockade" => 2,
         _ => 3,
     }
@@ -112,8 +112,13 @@ pub fn line(net: &mut Network, part: &mut u8, words: &[&str], out: &mut Vec<Send
                 addr: addr(words[3]),
                 capacity: number(4),
                 mtu: number(5) as u32,
+                latency: 0,
             };
             net.add_end(words[1], n, iface);
+        }
+        "latency" => {
+            let e = &net.ends[end(net, 1)];
+            net.nodes[e.node].ifaces[e.iface as usize].latency = number(2) as u32;
         }
         "link" => {
             let ends: Vec<usize> = (1..words.len()).map(|k| end(net, k)).collect();
@@ -204,6 +209,18 @@ pub fn line(net: &mut Network, part: &mut u8, words: &[&str], out: &mut Vec<Send
                 s,
                 |node| {
                     let _ = node.senders.remove(&(s, x));
+                    node.advertised.remove(&(s, x));
+                },
+                out,
+            );
+        }
+        "advert" => {
+            let (n, s, x) = (node(net, 1), session(words[2]), sender(words[3]));
+            net.local(
+                n,
+                s,
+                |node| {
+                    node.advertised.insert((s, x));
                 },
                 out,
             );
@@ -267,6 +284,7 @@ pub fn line(net: &mut Network, part: &mut u8, words: &[&str], out: &mut Vec<Send
             net.report(only, false);
         }
         "flags" => net.report(None, true),
+        "adverts" => net.adverts(),
         other => panic!("{other}"),
     }
 }
@@ -293,7 +311,7 @@ fn run(events: Option<Events>, watched: Option<Watched>) -> Network {
             }
             net.line_event(at + 1, text);
             line(&mut net, &mut part, &words, &mut out);
-            if words[0] == "report" || words[0] == "flags" {
+            if ["report", "flags", "adverts"].contains(&words[0]) {
                 net.report_event(written);
             }
             if new == 3 {

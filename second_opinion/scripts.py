@@ -3,9 +3,10 @@
 
 usage: second_opinion/scripts.py SEED
 
-The script of a seed is always the same, and no line of it is bad. It has links of two to eight ends, trees without loops, senders, wants
-of all styles, also such as clash, left-over state, datagrams lost, copied and put out of order, waits, rounds, restarts, new routes,
-confirmations, and injected datagrams of which some are no messages. The trace is on for most of it, so that each delivery counts.
+The script of a seed is always the same, and no line of it is bad. It has links of two to eight ends, latencies, trees without loops,
+senders, of which some are advertised, wants of all styles, also such as clash, left-over state, datagrams lost, copied and put out of
+order, waits, rounds, restarts, new routes, confirmations, and injected datagrams of which some are no messages. The trace is on for most
+of it, so that each delivery counts.
 """
 import random
 import sys
@@ -76,6 +77,7 @@ class Writer:
         self.lines = []
         self.period = 30000
         self.reports = 0
+        self.asked = 0  # how often what the paths offer is asked for
         self.senders = set()  # (node, session, sender) that send
         self.wants = {}  # (node, session): the style and the units that are wanted there
 
@@ -105,6 +107,8 @@ class Writer:
             self.add_end(draw.below(count), 99, 1)
         for end in self.ends:
             self.say("end", end.name, self.nodes[end.node], end.address, end.capacity, end.mtu)
+            if draw.chance(0.3):
+                self.say("latency", end.name, draw.one([0, 7, 100, 100, 250, 2**31, 2**32 - 1]))
         for link in links:
             for end in link:
                 end.link = link
@@ -135,7 +139,7 @@ class Writer:
     def add_end(self, node, link, place):
         draw = self.draw
         tight = self.room == "tight" or self.room == "mixed" and draw.chance(0.3)
-        capacity = draw.one([0, 300, 500, 800, 1000, 2000]) if tight else 1000000
+        capacity = draw.one([0, 300, 500, 800, 1000, 2000] if tight else [1000000, 1000000, 20000001, 2**46 - 1])
         mtu = draw.one([500, 1000, 1499]) if tight and draw.chance(0.4) else 1500
         end = End(f"e{len(self.ends)}", node, f"10.0.{link}.{place}", capacity, mtu)
         self.ends.append(end)
@@ -275,8 +279,9 @@ class Writer:
         injects = draw.one([0, 0, 4, 15])
         confirms = draw.one([0.0, 0.2])
         trace = draw.range(0, 3)
+        self.advertised = draw.one([0.0, 0.3, 0.8])
         weights = {
-            "send": 9, "drop": 2, "want": 12, "quit": 2, "wait": 6, "pass": 14, "rounds": 2, "deliver": 5, "lose": 4, "copy": 3,
+            "send": 9, "advert": 3 if self.advertised else 0, "adverts": 2, "drop": 2, "want": 12, "quit": 2, "wait": 6, "pass": 14, "rounds": 2, "deliver": 5, "lose": 4, "copy": 3,
             "clear": 1, "reroute": draw.one([0, 3]), "inject": injects, "report": 2, "flags": 2, "trace": 0.3,
         }
         for group, source in sorted(self.planned):
@@ -300,6 +305,7 @@ class Writer:
             self.say("pass 2")
         self.say("report")
         self.say("flags")
+        self.say("adverts")
 
     def send(self, session=None, address=None):
         draw = self.draw
@@ -311,6 +317,12 @@ class Writer:
         sender = f"{address}:{draw.one([5004, 5004, 5006])}"
         self.senders.add((self.nodes[end.node], session, sender))
         self.say("send", self.nodes[end.node], session, sender, spell(self.flow()))
+        if draw.chance(self.advertised):
+            self.say("advert", self.nodes[end.node], session, sender)
+
+    def advert(self):
+        if self.senders:
+            self.say("advert", *self.draw.one(sorted(self.senders)))
 
     def drop(self):
         if self.senders:
@@ -384,6 +396,11 @@ class Writer:
         if self.reports < 13:
             self.reports += 1
             self.say("flags")
+
+    def adverts(self):
+        if self.asked < 15:
+            self.asked += 1
+            self.say("adverts")
 
     def trace(self):
         self.say("trace", self.draw.one(["on", "off"]))

@@ -26,13 +26,13 @@ TIME = {"t": (int,)}
 MOST_TIME = 2**53  # milliseconds; the longest run of a script takes fewer
 DECODER = json.JSONDecoder()
 ADDRESSES = set()  # those found to be right
-DECLARED = {"period", "seed", "node", "end", "link", "hop"}
+DECLARED = {"period", "seed", "node", "end", "latency", "link", "hop"}
 LEFT_OVER = {"stale-path", "stale-resv", "stale-blockade"}
-QUIET = {"trace", "report", "flags"}
+QUIET = {"trace", "report", "flags", "adverts"}
 # What changes who sends, who wants what, or the trees, and so the demand.
 ASKS = {"send", "drop", "want", "quit", "reroute"}
 # What else is more than the passing of time, with datagrams that are lost, copied or late.
-SHAKES = {"clear", "inject"}
+SHAKES = {"advert", "clear", "inject"}
 
 
 class Unusable(Exception):
