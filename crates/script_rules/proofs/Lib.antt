@@ -2,7 +2,6 @@ pub mod Apart
 pub mod LinkRules
 pub mod HopRules
 pub mod LoopEnds
-pub mod TreeNames
 pub mod RerouteRules
 pub mod FitFacts
 pub mod LeftRules

@@ -24,9 +24,6 @@ use script_grammar::{Fault, HopEnds, RerouteLine, Stop};
 use script_state::{ScriptState, keep};
 use tree_routing::{HopErr, LinkHop, Routing};
 
-// The most hops of all trees.
-const MOST_HOPS: usize = 8192;
-
 /// Puts a tree in the place of the one in force. Memory is taken only behind the tests of its range, its ends and its source.
 pub fn add_reroute(state: &mut ScriptState, line: RerouteLine) -> Result<Event, Stop>
     ensures ok { OnOk result (KeepsAll (Keeps (draft_of state.old) (kind.Reroute line)) × Adds (draft_of state.old) (kind.Reroute line) (draft_of state.new)) }
@@ -44,12 +41,11 @@ pub fn add_reroute(state: &mut ScriptState, line: RerouteLine) -> Result<Event, 
     if state.topology.owner(source).is_none() {
         return Err(Stop::Bad(Fault::Name));
     }
-    let hops = hops_between(state, line.hops.as_slice())?;
-    let declared = state.topology.copy()?.close()?;
-    if !has_tree(&declared, group, source) {
+    if !state.topology.has_tree(group, source) {
         return Err(Stop::Bad(Fault::Name));
     }
-    let routing = moved(state, &declared, group, source, hops.as_slice())?;
+    let hops = hops_between(state, line.hops.as_slice())?;
+    let routing = moved(state, group, source, hops.as_slice())?;
     Ok(put(state, group, source, hops, routing))
 }
 
@@ -86,54 +82,40 @@ pub fn hop_between(state: &ScriptState, ends: &HopEnds) -> LinkHop
     }
 }
 
-// Whether the tree of a group and source has a hop.
-fn has_tree(routing: &Routing, group: Addr, source: Addr) -> bool
-    ensures { result ≡ list_any (of_tree group source) routing.now.hops }
-{
-    // The proof sees here that there are no more trees than that.
-    let _nodes = routing.nodes();
-    for k in 0..MOST_HOPS {
-        let Some(tree) = routing.tree(k) else {
-            return false;
-        };
-        if tree == (group, source) {
-            return true;
-        }
-    }
-    false
-}
-
-// The routing in force; the declared one where no tree moved yet.
-fn in_force<'a>(state: &'a ScriptState, declared: &'a Routing) -> &'a Routing
-    requires { declared.now ≡ state.now.topology }
-    ensures { result.now ≡ routing (draft_of state.now) }
-{
-    match &state.force {
-        Some(routing) => routing,
-        None => declared,
-    }
-}
-
-// The routing with these hops as the tree of a group and source.
-fn moved(
-    state: &ScriptState,
-    declared: &Routing,
-    group: Addr,
-    source: Addr,
-    hops: &[LinkHop],
-) -> Result<Routing, Stop>
-    requires { declared.now ≡ state.now.topology }
+// The routing with these hops as the tree of a group and source. The declared one is closed where no tree moved yet.
+fn moved(state: &ScriptState, group: Addr, source: Addr, hops: &[LinkHop]) -> Result<Routing, Stop>
     ensures moved { IfOk result (λ r. r ≡ moved_to (draft_of state.now) group source hops.now) }
     ensures can { OnOk result (CanMove (routing (draft_of state.now)) group source hops.now) }
     ensures refused { IfErr result (IsTreeRefused (draft_of state.now) group source hops.now) }
 {
-    let routing = in_force(state, declared);
-    if !routing.has_room_for_tree(group, source, hops) {
+    match &state.force {
+        Some(force) => moved_in(state, force, group, source, hops),
+        None => {
+            let declared = state.topology.copy()?.close()?;
+            moved_in(state, &declared, group, source, hops)
+        }
+    }
+}
+
+// The same, where this routing is in force.
+fn moved_in(
+    state: &ScriptState,
+    force: &Routing,
+    group: Addr,
+    source: Addr,
+    hops: &[LinkHop],
+) -> Result<Routing, Stop>
+    requires { force.now ≡ routing (draft_of state.now) }
+    ensures moved { IfOk result (λ r. r ≡ moved_to (draft_of state.now) group source hops.now) }
+    ensures can { OnOk result (CanMove (routing (draft_of state.now)) group source hops.now) }
+    ensures refused { IfErr result (IsTreeRefused (draft_of state.now) group source hops.now) }
+{
+    if !force.has_room_for_tree(group, source, hops) {
         return Err(Stop::Bad(Fault::Limit));
     }
     // The proof sees here that the ends of its hops are there.
-    let _nodes = routing.nodes();
-    match routing.reroute(group, source, hops) {
+    let _nodes = force.nodes();
+    match force.reroute(group, source, hops) {
         Ok(routing) => Ok(routing),
         Err(HopErr::NotTree) => Err(Stop::Bad(Fault::NotTree)),
         Err(HopErr::Loop { group, from, to }) => {

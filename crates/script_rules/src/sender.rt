@@ -20,7 +20,7 @@ ghost use Rattle.script_grammar.specs.declared.line.ScriptLine.TheVariants as ki
 
 use network_model::{Event, LocalCall};
 use rsvp_base::{Addr, EndName, Flow, Sender, Session};
-use script_grammar::{DropLine, Fault, SendLine, Stop};
+use script_grammar::{Fault, SendLine, SenderLine, Stop};
 use script_state::{ScriptState, has_room_for_session, is_session, keep_call};
 use tree_model::LocalSender;
 
@@ -52,7 +52,7 @@ pub fn add_send(state: &mut ScriptState, line: SendLine) -> Result<Event, Stop>
 }
 
 /// Has a sender advertised.
-pub fn add_advert(state: &mut ScriptState, line: DropLine) -> Result<Event, Stop>
+pub fn add_advert(state: &mut ScriptState, line: SenderLine) -> Result<Event, Stop>
     ensures ok { OnOk result (KeepsAll (Keeps (draft_of state.old) (kind.Advert line)) × Adds (draft_of state.old) (kind.Advert line) (draft_of state.new)) }
     ensures event { IfOk result (λ e. IsAdded (draft_of state.old).events e (draft_of state.new).events) }
     ensures refused { IfErr result (Refuses (draft_of state.old) (kind.Advert line)) }
@@ -82,7 +82,7 @@ pub fn add_advert(state: &mut ScriptState, line: DropLine) -> Result<Event, Stop
 }
 
 /// Ends a sender.
-pub fn add_drop(state: &mut ScriptState, line: DropLine) -> Result<Event, Stop>
+pub fn add_drop(state: &mut ScriptState, line: SenderLine) -> Result<Event, Stop>
     ensures ok { OnOk result (KeepsAll (Keeps (draft_of state.old) (kind.Drop line)) × Adds (draft_of state.old) (kind.Drop line) (draft_of state.new)) }
     ensures event { IfOk result (λ e. IsAdded (draft_of state.old).events e (draft_of state.new).events) }
     ensures refused { IfErr result (Refuses (draft_of state.old) (kind.Drop line)) }
@@ -119,7 +119,7 @@ fn send_values(line: &SendLine) -> Option<(Session, Sender, Flow)>
 }
 
 // The values of a line's words, where all are in range.
-fn drop_values(line: &DropLine) -> Option<(Session, Sender)>
+fn drop_values(line: &SenderLine) -> Option<(Session, Sender)>
     ensures some { IsSome result ↔ IsDropInRange line.now }
     ensures value { IfSome result (λ v. (v.0 ≡ session_value line.now.session) × (v.1 ≡ sender_value line.now.sender)) }
 {

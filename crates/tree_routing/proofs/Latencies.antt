@@ -1,5 +1,5 @@
 -- A network says the same with another latency of an end: of its nodes, its addresses, its trees and chains.
-use Rattle.std.specs.Prelude.{◌≡◌, ◌⊎◌, ℕ, suc, ◌+◌, Bool, true, ◌&&◌, ◌==◌, List, [], ◌∷◌, length, take, ◌<◌, ◌≤◌, slice_index_or, slice_set, map as each, Option, None, Some, slice_get, refl, if◌then◌else◌}
+use Rattle.std.specs.Prelude.{◌≡◌, ℕ, suc, ◌+◌, true, ◌&&◌, ◌==◌, List, [], ◌∷◌, length, take, ◌<◌, ◌≤◌, slice_index_or, slice_set, Option, Some, slice_get, refl, if◌then◌else◌}
 use Rattle.std.proofs.Common.{zero, sym, ap, subst, ◌∙◌, inl, inr, ⊎_elim, arith}
 use Rattle.rsvp_base.specs.Members.{In}
 use Rattle.rsvp_base.specs.declared.addr.Addr.{Addr}

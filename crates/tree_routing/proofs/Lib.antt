@@ -16,4 +16,9 @@ pub mod Together
 pub mod Rebuilt
 pub mod ClosedChains
 pub mod ClosedLevels
+pub mod Parts
+pub mod Woven
 pub mod ReroutedLaws
+pub mod RanksThen
+pub mod Moved
+pub mod TreesThen

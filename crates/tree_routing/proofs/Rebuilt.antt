@@ -1,5 +1,5 @@
 -- What is kept of hops, built anew with a tree in the place of another.
-use Rattle.std.specs.Prelude.{◌≡◌, ◌↔◌, ◌⊎◌, ℕ, ◌+◌, ◌<◌, ◌≤◌, Bool, true, false, not, cond, IsTrue, List, [], ◌∷◌, ◌++◌, length, map as each, Option, Some, refl, if◌then◌else◌, slice_index_or}
+use Rattle.std.specs.Prelude.{◌≡◌, ◌↔◌, ◌⊎◌, ℕ, ◌+◌, ◌<◌, ◌≤◌, Bool, true, false, not, cond, IsTrue, List, [], ◌∷◌, ◌++◌, ◌&&◌, ◌==◌, length, map as each, Option, Some, refl, if◌then◌else◌, slice_index_or}
 use Rattle.std.specs.List.{filter}
 use Rattle.std.proofs.Common.{zero, suc, sym, ap, subst, ◌∙◌, inl, inr, ⊎_elim, arith, append_assoc, length-append, take}
 use Rattle.std.proofs.lemmas.List.{length-map, map-append}
@@ -10,15 +10,19 @@ use Rattle.tree_model.specs.declared.hops.End.{End}
 use Rattle.tree_model.specs.declared.hops.LinkHop.{LinkHop}
 use Rattle.tree_model.specs.declared.hops.TreeHop.{TreeHop}
 use Rattle.tree_model.specs.Networks.{Net}
-use Rattle.tree_model.specs.Trees.{of_tree, tree, Grows, IsGrownFrom, IsGrown}
+use Rattle.tree_model.specs.Trees.{of_group, of_tree, tree, Grows, IsGrownFrom, IsGrown}
+use Rattle.rsvp_base.proofs.SetLaws.{and_both}
+use Rattle.rsvp_base.proofs.Tables.{either}
+use Rattle.tree_model.proofs.Following.{addr_itself, addr_same}
 use Rattle.tree_routing.specs.declared.known.Known.{Known}
 use Rattle.tree_routing.specs.declared.link.Link.{Link}
 use Rattle.tree_routing.specs.Answers.{Fits}
-use Rattle.tree_routing.specs.Known.{plain, net_of, is_pair, vertex_at, comes_to, vertex_before, IsKnown, AreKnown}
-use Rattle.tree_routing.specs.Reroutes.{tree_hop, ArePlaced, placed, with_before}
+use Rattle.tree_routing.specs.Known.{plain, net_of, net_with, is_pair, vertex_at, comes_to, vertex_before, IsKnown, AreKnown}
+use Rattle.tree_routing.specs.Reroutes.{tree_hop, moved, is_beside, StayOthers, ArePlaced, placed, with_before}
 use Rattle.tree_routing.proofs.LeastLaws.{take_one_more}
 use Rattle.tree_routing.proofs.ValidMore.{grown_push}
-use Rattle.tree_routing.proofs.ValidReroutes.{filter_both, none_left, all_mine, hops_again}
+use Rattle.tree_routing.proofs.Parts.{filter_within, filter_none, filter_less}
+use Rattle.tree_routing.proofs.ValidReroutes.{filter_both, all_mine, hops_again}
 use Rattle.tree_routing.proofs.Vertices.{place_kept, place_new, pair_itself}
 
 append_none : {A : Type 0} (xs : List A) → xs ++ [] ≡ xs
@@ -79,18 +83,71 @@ tree_behind rs g s hs none =
     ∙ map-append (λ (r : TreeHop). r.hop) (filter (of_tree g s) rs) (filter (of_tree g s) (each (tree_hop g s) hs))
     ∙ (λ i. none i ++ each (λ (r : TreeHop). r.hop) (all_mine g s hs i)) ∙ hops_again g s hs
 
-pub others_none : (g s : Addr) (rs : List TreeHop) → tree (filter (λ r. not (of_tree g s r)) rs) g s ≡ []
-others_none g s rs = ap (each (λ (r : TreeHop). r.hop)) (none_left g s rs)
+module _ (g s : Addr) where
+  beside_other : (a b : Bool) → (a && b) ≡ true → (a && not b) ≡ true → ⊥
+  beside_other true true e f = cc
+  beside_other true false e f = cc
+  beside_other false b e f = cc
+
+  pub beside_none : (rs : List TreeHop) → tree (filter (is_beside g s) rs) g s ≡ []
+  beside_none rs =
+      ap (each (λ (r : TreeHop). r.hop)) (filter_none (of_tree g s) (is_beside g s) (λ r e f. beside_other (of_group g r) (r.source.0 == s.0) e f) rs)
+
+  beside_is : (rs : List TreeHop) → filter (of_group g) (filter (λ r. not (of_tree g s r)) rs) ≡ filter (is_beside g s) rs
+  beside_is [] = refl
+  beside_is (r ∷ rs) = by (filter (λ r. not (of_tree g s r)) rs) (of_group g r) refl (r.source.0 == s.0) (beside_is rs)
+    where
+      by : (rest : List TreeHop) (a : Bool) → of_group g r ≡ a → (b : Bool) → filter (of_group g) rest ≡ filter (is_beside g s) rs
+          → filter (of_group g) (cond (not (a && b)) (r ∷ rest) rest) ≡ cond (a && not b) (r ∷ filter (is_beside g s) rs) (filter (is_beside g s) rs)
+      by rest true e true all = all
+      by rest true e false all = ap (λ (c : Bool). cond c (r ∷ filter (of_group g) rest) (filter (of_group g) rest)) e ∙ ap (λ (zs : List TreeHop). r ∷ zs) all
+      by rest false e b all = ap (λ (c : Bool). cond c (r ∷ filter (of_group g) rest) (filter (of_group g) rest)) e ∙ all
+
+  mine_stay : (hs : List LinkHop) → filter (of_group g) (each (tree_hop g s) hs) ≡ each (tree_hop g s) hs
+  mine_stay [] = refl
+  mine_stay (h ∷ hs) =
+      ap (λ (c : Bool). cond c (tree_hop g s h ∷ filter (of_group g) (each (tree_hop g s) hs)) (filter (of_group g) (each (tree_hop g s) hs))) (addr_itself g)
+      ∙ ap (λ (zs : List TreeHop). tree_hop g s h ∷ zs) (mine_stay hs)
+
+  -- of the hops of all trees, with a tree in the place of another, those of the group
+  pub part_moved : (rs : List TreeHop) (hs : List LinkHop) → filter (of_group g) (moved g s hs rs) ≡ filter (is_beside g s) rs ++ each (tree_hop g s) hs
+  part_moved rs hs =
+      filter_both (of_group g) (filter (λ r. not (of_tree g s r)) rs) (each (tree_hop g s) hs) ∙ (λ i. beside_is rs i ++ mine_stay hs i)
+
+  pub beside_few : (rs : List TreeHop) → length (filter (is_beside g s) rs) ≤ length (filter (λ r. not (of_tree g s r)) rs)
+  beside_few rs =
+      let a = filter_less (of_group g) (of_group g) (filter (λ r. not (of_tree g s r)) rs) in
+      let b = ap length (beside_is rs) in
+      omega arith
+
+  -- those of other groups stay
+  none_elsewhere : (g' : Addr) → (g ≡ g' → ⊥) → (hs : List LinkHop) → filter (of_group g') (each (tree_hop g s) hs) ≡ []
+  none_elsewhere g' apart [] = refl
+  none_elsewhere g' apart (h ∷ hs) =
+      either (g.0 == g'.0) (λ t. absurd (apart (addr_same g g' t)))
+      (λ f. ap (λ (c : Bool). cond c (tree_hop g s h ∷ filter (of_group g') (each (tree_hop g s) hs)) (filter (of_group g') (each (tree_hop g s) hs))) f ∙ none_elsewhere g' apart hs)
+
+  pub others_stay : (rs : List TreeHop) (hs : List LinkHop) → StayOthers g rs (moved g s hs rs)
+  others_stay rs hs g' apart =
+      filter_both (of_group g') (filter (λ r. not (of_tree g s r)) rs) (each (tree_hop g s) hs)
+      ∙ (λ i. filter_within (of_group g') (λ r. not (of_tree g s r)) stays rs i ++ none_elsewhere g' apart hs i)
+      ∙ append_none (filter (of_group g') rs)
+    where
+      stays : (r : TreeHop) → of_group g' r ≡ true → not (of_tree g s r) ≡ true
+      stays r e =
+          either (of_tree g s r)
+          (λ t. absurd (apart (sym (addr_same r.group g (and_both (of_group g r) _ t).0) ∙ addr_same r.group g' e)))
+          (λ f. ap not f)
 
 -- what is kept of the hops of other trees, and of so many of these
 pub record Grown (ends : List End) (links : List Link) (old all : List Known) (g s : Addr) (hs : List LinkHop) : Type 0 where
   pub hops : plain all ≡ plain old ++ each (tree_hop g s) hs
   pub placed : ArePlaced all
-  pub grown : (nodes : ℕ) (ks : List Known) → IsGrown (net_of nodes ends links ks) s hs
+  pub grown : (nodes : ℕ) (rs : List TreeHop) → IsGrown (net_with nodes ends links rs) s hs
 
 module _ (ends : List End) (links : List Link) (old : List Known) (g s : Addr) (none : tree (plain old) g s ≡ []) where
   pub grown_start : ArePlaced old → Grown ends links old old g s []
-  grown_start are = record { hops = sym (append_none (plain old)); placed = are; grown = λ nodes ks. tt }
+  grown_start are = record { hops = sym (append_none (plain old)); placed = are; grown = λ nodes rs. tt }
 
   module _ (all : List Known) (hs : List LinkHop) (at : ℕ) (d : LinkHop) (so_far : Grown ends links old all g s (take at hs)) (inside : at < length hs) where
     abbrev next : LinkHop
@@ -100,18 +157,18 @@ module _ (ends : List End) (links : List Link) (old : List Known) (g s : Addr) (
     its_tree = ap (λ (rs : List TreeHop). tree rs g s) so_far.hops ∙ tree_behind (plain old) g s (take at hs) none
 
     -- whatever else the network has
-    grows_in : (nodes : ℕ) (ks : List Known) → Fits (net_of nodes ends links all) (tree_hop g s next) → Grows (net_of nodes ends links ks) s (take at hs) next
-    grows_in nodes ks fits =
-        subst (λ (xs : List LinkHop). Grows (net_of nodes ends links ks) s xs next) its_tree
+    grows_in : (nodes : ℕ) (rs : List TreeHop) → Fits (net_of nodes ends links all) (tree_hop g s next) → Grows (net_with nodes ends links rs) s (take at hs) next
+    grows_in nodes rs fits =
+        subst (λ (xs : List LinkHop). Grows (net_with nodes ends links rs) s xs next) its_tree
         (record { linked = fits.linked; from_reached = fits.from_reached; to_new = fits.to_new; alone = fits.alone })
 
-    fits_in : (nodes : ℕ) (ks : List Known) → Grows (net_of nodes ends links ks) s (take at hs) next → Fits (net_of nodes ends links all) (tree_hop g s next)
-    fits_in nodes ks grows =
-        let f = subst (λ (xs : List LinkHop). Grows (net_of nodes ends links ks) s xs next) (sym its_tree) grows in
+    fits_in : (nodes : ℕ) (rs : List TreeHop) → Grows (net_with nodes ends links rs) s (take at hs) next → Fits (net_of nodes ends links all) (tree_hop g s next)
+    fits_in nodes rs grows =
+        let f = subst (λ (xs : List LinkHop). Grows (net_with nodes ends links rs) s xs next) (sym its_tree) grows in
         record { linked = f.linked; from_reached = f.from_reached; to_new = f.to_new; alone = f.alone }
 
-    pub not_grown : ((nodes : ℕ) → Fits (net_of nodes ends links all) (tree_hop g s next) → ⊥) → (nodes : ℕ) (ks : List Known) → IsGrown (net_of nodes ends links ks) s hs → ⊥
-    not_grown never nodes ks grown = never nodes (fits_in nodes ks (grown_at (net_of nodes ends links ks) s [] hs at d inside grown))
+    pub not_grown : ((nodes : ℕ) → Fits (net_of nodes ends links all) (tree_hop g s next) → ⊥) → (nodes : ℕ) (rs : List TreeHop) → IsGrown (net_with nodes ends links rs) s hs → ⊥
+    not_grown never nodes rs grown = never nodes (fits_in nodes rs (grown_at (net_with nodes ends links rs) s [] hs at d inside grown))
 
     pub grown_more : (all' : List Known) → all' ≡ all ++ placed all (tree_hop g s next) ∷ [] → ((nodes : ℕ) → Fits (net_of nodes ends links all) (tree_hop g s next))
         → Grown ends links old all' g s (take (at + 1) hs)
@@ -121,7 +178,7 @@ module _ (ends : List End) (links : List Link) (old : List Known) (g s : Addr) (
               ∙ append_assoc (plain old) (each (tree_hop g s) (take at hs)) (tree_hop g s next ∷ [])
               ∙ ap (λ (rs : List TreeHop). plain old ++ rs) (sym (map-append (tree_hop g s) (take at hs) (next ∷ [])));
           placed = placed_push all all' (tree_hop g s next) is so_far.placed;
-          grown = λ nodes ks. grown_push (net_of nodes ends links ks) s [] (take at hs) next (so_far.grown nodes ks) (grows_in nodes ks (fits nodes));
+          grown = λ nodes rs. grown_push (net_with nodes ends links rs) s [] (take at hs) next (so_far.grown nodes rs) (grows_in nodes rs (fits nodes));
         })
 
 -- how many they are
@@ -140,35 +197,31 @@ grown_length ends links old all g s hs at so_far le =
     length_front (suc n) [] le = absurd (omega arith)
     length_front (suc n) (x ∷ xs) le = ap suc (length_front n xs (omega arith))
 
--- what is kept of the hops of other trees
-pub record Others (hops all : List Known) (g s : Addr) : Type 0 where
-  pub hops_are : plain all ≡ filter (λ r. not (of_tree g s r)) (plain hops)
+-- what is kept of the hops of the other trees of a group
+pub record Others (hops : List TreeHop) (all : List Known) (g s : Addr) : Type 0 where
+  pub hops_are : plain all ≡ filter (is_beside g s) hops
   pub placed : ArePlaced all
 
-module _ (hops all all' : List Known) (g s : Addr) (at : ℕ) (d : Known) (inside : at < length hops) (so_far : Others (take at hops) all g s) (few : length all ≤ at) where
-  abbrev k : Known
-  k = slice_index_or hops at d
+module _ (hops : List TreeHop) (all all' : List Known) (g s : Addr) (at : ℕ) (d : TreeHop) (inside : at < length hops) (so_far : Others (take at hops) all g s) (few : length all ≤ at) where
+  abbrev r : TreeHop
+  r = slice_index_or hops at d
 
-  abbrev other : TreeHop → Bool
-  other r = not (of_tree g s r)
-
-  one : (b : Bool) → of_tree g s k.hop ≡ b → filter other (plain (take (at + 1) hops)) ≡ filter other (plain (take at hops)) ++ cond (not b) (k.hop ∷ []) []
+  one : (b : Bool) → is_beside g s r ≡ b → filter (is_beside g s) (take (at + 1) hops) ≡ filter (is_beside g s) (take at hops) ++ cond b (r ∷ []) []
   one b e =
-      ap (λ (ks : List Known). filter other (plain ks)) (take_one_more hops at d inside) ∙ ap (filter other) (map-append (λ (x : Known). x.hop) (take at hops) (k ∷ []))
-      ∙ filter_both other (plain (take at hops)) (k.hop ∷ [])
-      ∙ ap (λ (b : Bool). filter other (plain (take at hops)) ++ cond (not b) (k.hop ∷ []) []) e
+      ap (filter (is_beside g s)) (take_one_more hops at d inside) ∙ filter_both (is_beside g s) (take at hops) (r ∷ [])
+      ∙ ap (λ (b : Bool). filter (is_beside g s) (take at hops) ++ cond b (r ∷ []) []) e
 
-  pub others_more : ((of_tree g s k.hop ≡ false) × (all' ≡ all ++ placed all k.hop ∷ [])) ⊎ ((of_tree g s k.hop ≡ true) × (all' ≡ all)) → Others (take (at + 1) hops) all' g s × (length all' ≤ at + 1)
+  pub others_more : ((is_beside g s r ≡ true) × (all' ≡ all ++ placed all r ∷ [])) ⊎ ((is_beside g s r ≡ false) × (all' ≡ all)) → Others (take (at + 1) hops) all' g s × (length all' ≤ at + 1)
   others_more (inl a) = (
     record {
-      hops_are = ap plain a.1 ∙ map-append (λ (x : Known). x.hop) all (placed all k.hop ∷ []) ∙ ap (λ (rs : List TreeHop). rs ++ k.hop ∷ []) so_far.hops_are ∙ sym (one false a.0);
-      placed = placed_push all all' k.hop a.1 so_far.placed;
+      hops_are = ap plain a.1 ∙ map-append (λ (x : Known). x.hop) all (placed all r ∷ []) ∙ ap (λ (rs : List TreeHop). rs ++ r ∷ []) so_far.hops_are ∙ sym (one true a.0);
+      placed = placed_push all all' r a.1 so_far.placed;
     },
-    let size = ap length a.1 ∙ length-append all (placed all k.hop ∷ []) in omega arith,
+    let size = ap length a.1 ∙ length-append all (placed all r ∷ []) in omega arith,
   )
   others_more (inr a) = (
     record {
-      hops_are = ap plain a.1 ∙ so_far.hops_are ∙ sym (append_none (filter other (plain (take at hops)))) ∙ sym (one true a.0);
+      hops_are = ap plain a.1 ∙ so_far.hops_are ∙ sym (append_none (filter (is_beside g s) (take at hops))) ∙ sym (one false a.0);
       placed = subst ArePlaced (sym a.1) so_far.placed;
     },
     let size = ap length a.1 in omega arith,

@@ -9,7 +9,7 @@ use Rattle.tree_model.specs.declared.hops.End.{End}
 use Rattle.tree_model.specs.declared.hops.LinkHop.{LinkHop}
 use Rattle.tree_model.specs.declared.hops.TreeHop.{TreeHop}
 use Rattle.tree_model.specs.Networks.{Net}
-use Rattle.tree_model.specs.Trees.{of_tree, tree, IsGrown}
+use Rattle.tree_model.specs.Trees.{of_group, of_tree, tree, IsGrown}
 use Rattle.tree_model.specs.Ranks.{IsLoopFreeIn}
 use Rattle.tree_model.specs.Valid.{IsValid}
 use Rattle.tree_routing.specs.declared.known.Known.{Known}
@@ -17,9 +17,10 @@ use Rattle.tree_routing.specs.declared.link.Link.{Link}
 use Rattle.tree_routing.specs.declared.hop_err.HopErr.{HopErr}
 use Rattle.tree_routing.specs.declared.hop_err.HopErr.TheVariants.{NotTree, Loop, NoMemory}
 use Rattle.tree_routing.specs.Answers.{IsLeastOnLoop}
-use Rattle.tree_routing.specs.Known.{plain, net_of, vertex_before, AreKnown}
-use Rattle.tree_routing.specs.Reroutes.{is_other, rerouted, tree_hop, with_hops, RerouteAnswer, IsRefused, AreBefore, IsLeastClosed}
+use Rattle.tree_routing.specs.Known.{plain, net_of, net_with, vertex_before, AreKnown}
+use Rattle.tree_routing.specs.Reroutes.{is_other, part, rerouted, tree_hop, with_hops, RerouteAnswer, IsRefused, AreBefore, IsLeastClosed}
 use Rattle.tree_routing.proofs.ClosedChains.{none_closed, least_closed}
+use Rattle.tree_routing.proofs.Parts.{filter_less, free_part, grown_part, least_part}
 use Rattle.tree_routing.proofs.ValidReroutes.{grown_more, valid_rerouted}
 use Rattle.tree_routing.proofs.Vertices.{before_told, vertex_below}
 
@@ -48,52 +49,60 @@ refused_answer R net m g s hops NotTree is refused = subst (λ (n : Net). IsRefu
 refused_answer R net m g s hops (Loop group from to) is refused = absurd refused
 refused_answer R net m g s hops NoMemory is refused = tt
 
-module _ (net : Net) (valid : IsValid net) (nodes : ℕ) (ends : List End) (links : List Link) (old : List Known) (is_net : net_of nodes ends links old ≡ net) (g s : Addr) (hops : List LinkHop)
-    (grown : IsGrown (net_of nodes ends links old) s hops)
-    (ks : List Known) (known : AreKnown ends ks) (are : plain ks ≡ (rerouted (net_of nodes ends links old) g s hops).hops) where
+module _ (net : Net) (valid : IsValid net) (nodes : ℕ) (ends : List End) (links : List Link) (old : List TreeHop) (is_net : net_with nodes ends links old ≡ net) (g s : Addr) (hops : List LinkHop)
+    (grown : IsGrown (net_with nodes ends links old) s hops)
+    (ks : List Known) (known : AreKnown ends ks) (are : plain ks ≡ (part g (rerouted (net_with nodes ends links old) g s hops)).hops) where
   grown_in : IsGrown net s hops
   grown_in = subst (λ (n : Net). IsGrown n s hops) is_net grown
 
-  is_more : net_of nodes ends links ks ≡ rerouted net g s hops
-  is_more = (λ i. net_with (are i)) ∙ ap (λ (n : Net). rerouted n g s hops) is_net
-    where
-      net_with : List TreeHop → Net
-      net_with rs = with_hops (net_of nodes ends links old) rs
+  abbrev whole : Net
+  whole = rerouted net g s hops
+
+  is_part : net_of nodes ends links ks ≡ part g whole
+  is_part = (λ i. with_hops (net_with nodes ends links old) (are i)) ∙ ap (λ (n : Net). part g (rerouted n g s hops)) is_net
 
   all_grown : (g' s' : Addr) → IsGrown (net_of nodes ends links ks) s' (tree (plain ks) g' s')
-  all_grown g' s' = subst (λ (n : Net). IsGrown n s' (tree n.hops g' s')) (sym is_more) (grown_more net valid g s hops grown_in g' s')
+  all_grown g' s' = subst (λ (n : Net). IsGrown n s' (tree n.hops g' s')) (sym is_part) (grown_part whole g (grown_more net valid g s hops grown_in) g' s')
 
-  free_in : IsLeastClosed ks ks g None → IsLoopFreeIn (rerouted net g s hops) g
-  free_in none = subst (λ (n : Net). IsLoopFreeIn n g) is_more (none_closed nodes ends links ks all_grown known g none)
+  free_in : IsLeastClosed ks ks g None → IsLoopFreeIn whole g
+  free_in none = free_part whole g (subst (λ (n : Net). IsLoopFreeIn n g) is_part (none_closed nodes ends links ks all_grown known g none))
 
-  pub free_answer : IsLeastClosed ks ks g None → IsGrown net s hops × IsLoopFreeIn (rerouted net g s hops) g
+  pub free_answer : IsLeastClosed ks ks g None → IsGrown net s hops × IsLoopFreeIn whole g
   free_answer none = (grown_in, free_in none)
 
-  pub loop_answer : (h : LinkHop) → IsLeastClosed ks ks g (Some h) → IsGrown net s hops × (g ≡ g) × IsLeastOnLoop (rerouted net g s hops) g h
-  loop_answer h least = (grown_in, refl, subst (λ (n : Net). IsLeastOnLoop n g h) is_more (least_closed nodes ends links ks all_grown known g h least))
+  pub loop_answer : (h : LinkHop) → IsLeastClosed ks ks g (Some h) → IsGrown net s hops × (g ≡ g) × IsLeastOnLoop whole g h
+  loop_answer h least = (grown_in, refl, least_part whole g h (subst (λ (n : Net). IsLeastOnLoop n g h) is_part (least_closed nodes ends links ks all_grown known g h least)))
 
-  pub is_rerouted : with_hops net (plain ks) ≡ rerouted net g s hops
-  is_rerouted = ap (with_hops net) are ∙ ap (λ (n : Net). with_hops net (rerouted n g s hops).hops) is_net
+  pub part_kept : plain ks ≡ (part g whole).hops
+  part_kept = ap (λ (n : Net). n.hops) is_part
 
-  pub valid_with : length (rerouted net g s hops).hops ≤ 8192 → IsLeastClosed ks ks g None → IsValid (with_hops net (plain ks))
-  valid_with few none = subst IsValid (sym is_rerouted) (valid_rerouted net valid g s hops few grown_in (free_in none))
+  pub part_few : length whole.hops ≤ 8192 → (ks' : List Known) → ks' ≡ ks → length ks' ≤ 8192
+  part_few few ks' is =
+      let a = ap length part_kept in
+      let b = length-map ks (λ (k : Known). k.hop) in
+      let c = filter_less (of_group g) (of_group g) whole.hops in
+      let d = ap length is in
+      omega arith
+
+  pub valid_with : length whole.hops ≤ 8192 → IsLeastClosed ks ks g None → IsValid whole
+  valid_with few none = valid_rerouted net valid g s hops few grown_in (free_in none)
 
 -- ---- room
 module _ (g s : Addr) where
-  abbrev kept : List Known → List TreeHop
-  kept ks = filter (λ r. not (of_tree g s r)) (plain ks)
+  abbrev kept : List TreeHop → List TreeHop
+  kept rs = filter (λ r. not (of_tree g s r)) rs
 
-  others_count : (ks : List Known) → length (kept ks) ≡ count_by (is_other g s) ks
+  others_count : (rs : List TreeHop) → length (kept rs) ≡ count_by (is_other g s) rs
   others_count [] = refl
-  others_count (k ∷ ks) = by (is_other g s k) (others_count ks) ∙ sym (sum_by-cons (λ (x : Known). cond (is_other g s x) 1 0) k ks)
+  others_count (r ∷ rs) = by (is_other g s r) (others_count rs) ∙ sym (sum_by-cons (λ (x : TreeHop). cond (is_other g s x) 1 0) r rs)
     where
-      by : (b : Bool) → length (kept ks) ≡ count_by (is_other g s) ks → length (cond b (k.hop ∷ kept ks) (kept ks)) ≡ cond b 1 0 + count_by (is_other g s) ks
+      by : (b : Bool) → length (kept rs) ≡ count_by (is_other g s) rs → length (cond b (r ∷ kept rs) (kept rs)) ≡ cond b 1 0 + count_by (is_other g s) rs
       by true e = omega (arith, e)
       by false e = omega (arith, e)
 
-  pub hops_then : (net : Net) (ks : List Known) (hs : List LinkHop) → net.hops ≡ plain ks → length (rerouted net g s hs).hops ≡ count_by (is_other g s) ks + length hs
-  hops_then net ks hs are =
+  pub hops_then : (net : Net) (rs : List TreeHop) (hs : List LinkHop) → net.hops ≡ rs → length (rerouted net g s hs).hops ≡ count_by (is_other g s) rs + length hs
+  hops_then net rs hs are =
       ap (λ (rs : List TreeHop). length (filter (λ r. not (of_tree g s r)) rs ++ each (tree_hop g s) hs)) are
-      ∙ length-append (kept ks) (each (tree_hop g s) hs)
-      ∙ ap (λ n. n + length (each (tree_hop g s) hs)) (others_count ks)
-      ∙ ap (λ n. count_by (is_other g s) ks + n) (length-map hs (tree_hop g s))
+      ∙ length-append (kept rs) (each (tree_hop g s) hs)
+      ∙ ap (λ n. n + length (each (tree_hop g s) hs)) (others_count rs)
+      ∙ ap (λ n. count_by (is_other g s) rs + n) (length-map hs (tree_hop g s))

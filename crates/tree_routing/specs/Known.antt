@@ -19,9 +19,13 @@ link_ends l = take l.count l.ends
 abbrev pub plain : List Known → List TreeHop
 plain ks = each (λ k. k.hop) ks
 
+-- the network of these nodes, ends, links and hops
+abbrev pub net_with : ℕ → List End → List Link → List TreeHop → Net
+net_with nodes ends links rs = record { nodes = nodes; ends = ends; links = each link_ends links; hops = rs }
+
 -- the network that is kept
 abbrev pub net_of : ℕ → List End → List Link → List Known → Net
-net_of nodes ends links ks = record { nodes = nodes; ends = ends; links = each link_ends links; hops = plain ks }
+net_of nodes ends links ks = net_with nodes ends links (plain ks)
 
 -- ---- the graph of a group: a hop is the same in all trees
 -- the same hop of the same group

@@ -1,5 +1,5 @@
 -- A tree in the place of another: the network with it, what a routing answers, and the steps of the call.
-use Rattle.std.specs.Prelude.{◌≡◌, ℕ, ◌<◌, Bool, not, List, ◌++◌, map as each, Option, None, Some, Result, Ok, Err}
+use Rattle.std.specs.Prelude.{◌≡◌, ℕ, ◌<◌, Bool, not, ◌&&◌, ◌==◌, List, ◌++◌, map as each, Option, None, Some, Result, Ok, Err}
 use Rattle.std.specs.List.{filter}
 use Rattle.rsvp_base.specs.Members.{In}
 use Rattle.rsvp_base.specs.declared.addr.Addr.{Addr}
@@ -7,7 +7,7 @@ use Rattle.tree_model.specs.declared.hops.End.{End}
 use Rattle.tree_model.specs.declared.hops.LinkHop.{LinkHop}
 use Rattle.tree_model.specs.declared.hops.TreeHop.{TreeHop}
 use Rattle.tree_model.specs.Networks.{Net}
-use Rattle.tree_model.specs.Trees.{of_tree, IsGrown}
+use Rattle.tree_model.specs.Trees.{of_group, of_tree, IsGrown}
 use Rattle.tree_model.specs.Ranks.{IsLoopFreeIn}
 use Rattle.tree_routing.specs.declared.known.Known.{Known}
 use Rattle.tree_routing.specs.declared.hop_err.HopErr.{HopErr}
@@ -19,17 +19,32 @@ use Rattle.tree_routing.specs.Known.{plain, vertex_at, vertex_before}
 abbrev pub tree_hop : Addr → Addr → LinkHop → TreeHop
 tree_hop g s h = record { group = g; source = s; hop = h }
 
+-- the hops of other trees, and behind them these as the tree of the group and source
+abbrev pub moved : Addr → Addr → List LinkHop → List TreeHop → List TreeHop
+moved g s hops rs = filter (λ r. not (of_tree g s r)) rs ++ each (tree_hop g s) hops
+
 -- the hops as the tree of the group and source, in place of those that it has
 abbrev pub rerouted : Net → Addr → Addr → List LinkHop → Net
-rerouted net g s hops = record net { hops = filter (λ r. not (of_tree g s r)) net.hops ++ each (tree_hop g s) hops }
-
--- a hop of another tree
-abbrev pub is_other : Addr → Addr → Known → Bool
-is_other g s k = not (of_tree g s k.hop)
+rerouted net g s hops = record net { hops = moved g s hops net.hops }
 
 -- with other hops
 abbrev pub with_hops : Net → List TreeHop → Net
 with_hops net rs = record net { hops = rs }
+
+-- a hop of another tree, and of another tree of the group
+abbrev pub is_other : Addr → Addr → TreeHop → Bool
+is_other g s r = not (of_tree g s r)
+
+abbrev pub is_beside : Addr → Addr → TreeHop → Bool
+is_beside g s r = of_group g r && not (r.source.0 == s.0)
+
+-- the network with the hops of one group alone
+abbrev pub part : Addr → Net → Net
+part g net = record net { hops = filter (of_group g) net.hops }
+
+-- the hops of all other groups stay
+abbrev pub StayOthers : Addr → List TreeHop → List TreeHop → Type 0
+StayOthers g old new = (h : Addr) → (g ≡ h → ⊥) → filter (of_group h) new ≡ filter (of_group h) old
 
 -- taken: the hops are a tree, and with it no chain of the group is closed. No tree: they are none. A loop: they are one, and
 -- with it this is the least hop on a closed chain of the group

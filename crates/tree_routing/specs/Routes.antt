@@ -1,11 +1,12 @@
 -- What a routing answers.
-use Rattle.std.specs.Prelude.{◌≡◌, ℕ, true, List, map as each, Option}
+use Rattle.std.specs.Prelude.{◌≡◌, ℕ, Bool, true, false, List, map as each, Option}
 use Rattle.std.specs.declared.cmp.Ordering.{Ordering}
 use Rattle.rsvp_base.specs.Keys.{Keys, by, numbers, pairs}
 use Rattle.rsvp_base.specs.Members.{In}
 use Rattle.rsvp_base.specs.Orders.{addrs}
 use Rattle.rsvp_base.specs.Rows.{AreRows, table_of}
 use Rattle.rsvp_base.specs.Sets.{set_of, with_key}
+use Rattle.rsvp_base.specs.Table.{without}
 use Rattle.rsvp_base.specs.declared.addr.Addr.{Addr}
 use Rattle.tree_model.specs.declared.hops.End.{End}
 use Rattle.tree_model.specs.declared.hops.TreeHop.{TreeHop}
@@ -46,6 +47,15 @@ as_row t = (t, tt)
 -- the list of a set of trees with one more
 abbrev pub IsWithTree : List (Addr × Addr) → Addr × Addr → List (Addr × Addr) → Type 0
 IsWithTree xs t ys = (up : AreRows tree_keys as_row xs) → each as_row ys ≡ (with_key (table_of tree_keys as_row xs up) t).rows
+
+-- the list of a set of trees without one
+abbrev pub IsWithoutTree : List (Addr × Addr) → Addr × Addr → List (Addr × Addr) → Type 0
+IsWithoutTree xs t ys = (up : AreRows tree_keys as_row xs) → each as_row ys ≡ (without (table_of tree_keys as_row xs up) t).rows
+
+-- with the tree, or without it
+abbrev pub IsTreePut : List (Addr × Addr) → Addr × Addr → Bool → List (Addr × Addr) → Type 0
+IsTreePut xs t true ys = IsWithTree xs t ys
+IsTreePut xs t false ys = IsWithoutTree xs t ys
 
 -- a hop as a row of a set
 abbrev pub hop_row : TreeHop → TreeHop × Unit {0}

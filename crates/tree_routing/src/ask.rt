@@ -119,11 +119,30 @@ pub(crate) fn is_linked(links: &[Link], hop: LinkHop) -> bool
     is_other(link_of(links, hop.from), hop.from, hop.to)
 }
 
-// Whether a hop is of the tree.
-pub(crate) fn is_in_tree(hop: &Known, group: Addr, source: Addr) -> bool
+/// Whether a hop is of the tree.
+pub(crate) fn is_of_tree(hop: &TreeHop, group: Addr, source: Addr) -> bool
+    ensures { result ≡ of_tree group source hop.now }
+{
+    hop.group.0 == group.0 && hop.source.0 == source.0
+}
+
+// Whether what is kept is of a hop of the tree.
+fn is_in_tree(hop: &Known, group: Addr, source: Addr) -> bool
     ensures { result ≡ of_tree group source hop.now.hop }
 {
-    hop.hop.group.0 == group.0 && hop.hop.source.0 == source.0
+    is_of_tree(&hop.hop, group, source)
+}
+
+/// Whether the tree has a hop.
+pub(crate) fn has_tree(hops: &[Known], group: Addr, source: Addr) -> bool
+    ensures { result ≡ list_any (of_tree group source) (plain hops.now) }
+{
+    for hop in hops {
+        if is_in_tree(hop, group, source) {
+            return true;
+        }
+    }
+    false
 }
 
 // Whether a hop of the tree goes into the node.

@@ -10,6 +10,8 @@ use crate::known::Known;
 use crate::levels::highest;
 use crate::link::Link;
 use crate::order::by_level;
+use crate::ranked::group_hops;
+use crate::replacing::plain;
 use crate::routing::Routing;
 use rsvp_base::NoMemory;
 use std::alloc::Global;
@@ -32,16 +34,19 @@ impl Routing {
         ensures { IfOk result (λ routing. routing ≡ net_of nodes ends.items links.items hops.items) }
     {
         let chain = highest(lifted, hops.as_slice());
-        let order = by_level(alloc, hops.as_slice(), lifted, chain)?;
-        let trees = trees_of(alloc, hops.as_slice())?;
-        let sorted = in_order(alloc, hops.as_slice())?;
+        let ranked = by_level(alloc, hops.as_slice(), lifted, chain)?;
+        let order = group_hops(alloc, ranked.as_slice())?;
+        let all = plain(alloc, hops.as_slice())?;
+        let trees = trees_of(alloc, all.as_slice())?;
+        let sorted = in_order(alloc, all.as_slice())?;
         Ok(Routing {
             alloc,
             nodes,
             ends,
             links,
-            hops,
+            hops: all,
             chain,
+            ranked,
             order,
             trees,
             sorted,

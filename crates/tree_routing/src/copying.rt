@@ -32,6 +32,7 @@ impl Routing {
             links: self.links.as_slice().to_vec(self.alloc)?,
             hops: self.hops.as_slice().to_vec(self.alloc)?,
             chain: self.chain,
+            ranked: self.ranked.as_slice().to_vec(self.alloc)?,
             order: self.order.as_slice().to_vec(self.alloc)?,
             trees: self.trees.as_slice().to_vec(self.alloc)?,
             sorted: self.sorted.as_slice().to_vec(self.alloc)?,

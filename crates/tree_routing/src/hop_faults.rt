@@ -77,7 +77,8 @@ fn growing_fault(
     hop: LinkHop,
 ) -> Option<HopFault>
     ensures { (nodes : ℕ) (ks : List AKnown)
-        → MatchOption result (Grows (net_of nodes ends.now links.now ks) source (tree (plain hops.now) group source) hop) (IsHopFault (net_of nodes ends.now links.now ks) source (tree (plain hops.now) group source) hop) }
+        → MatchOption result (Grows (net_of nodes ends.now links.now ks) source (tree (plain hops.now) group source) hop)
+        (IsHopFault (net_of nodes ends.now links.now ks) source (tree (plain hops.now) group source) hop) }
 {
     if !is_linked(links, hop) {
         return Some(HopFault::NoLink);

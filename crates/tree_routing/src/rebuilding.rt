@@ -1,12 +1,12 @@
-//! What is kept of hops, with a tree in the place of another.
-ghost use Rattle.std.specs.Prelude.{◌≡◌, ◌≤◌, ◌+◌, ◌++◌, ◌∷◌, [], ℕ, List, not, length, map, IfOk, IfErr, OnOk};
+//! What is kept of the hops of a group, with a tree in the place of another.
+ghost use Rattle.std.specs.Prelude.{◌≡◌, ◌≤◌, ◌+◌, ◌++◌, ◌∷◌, [], ℕ, List, length, map, IfOk, IfErr, OnOk};
 ghost use Rattle.std.specs.List.{filter};
-ghost use Rattle.tree_model.specs.Trees.{of_tree, tree, IsGrown};
-ghost use Rattle.tree_routing.specs.Known.{plain, net_of, AreKnown};
-ghost use Rattle.tree_routing.specs.Reroutes.{placed, with_before, ArePlaced, IsRefused, GrownAnswer, rerouted};
-ghost use Rattle.tree_routing.specs.declared.known.Known.{Known};
+ghost use Rattle.tree_model.specs.Trees.{tree, IsGrown};
+ghost use Rattle.tree_routing.specs.Known.{plain, net_with, AreKnown};
+ghost use Rattle.tree_routing.specs.Reroutes.{is_beside, part, placed, with_before, ArePlaced, IsRefused, GrownAnswer, rerouted};
+ghost use Rattle.tree_model.specs.declared.hops.TreeHop.{TreeHop as ATreeHop};
 
-use crate::ask::{is_in_tree, vertex_at, vertex_before};
+use crate::ask::{vertex_at, vertex_before};
 use crate::growing::can_grow;
 use crate::hop_err::HopErr;
 use crate::known::Known;
@@ -29,16 +29,28 @@ fn place(hops: &mut Vec<Known>, hop: TreeHop) -> Result<(), NoMemory>
     Ok(())
 }
 
-// The hops of the other trees, in their order. `NoMemory`: there was no room for them.
-fn others(alloc: Global, hops: &[Known], group: Addr, source: Addr) -> Result<Vec<Known>, NoMemory>
+// Whether it is a hop of another tree of the group.
+fn is_beside(hop: &TreeHop, group: Addr, source: Addr) -> bool
+    ensures { result ≡ is_beside group source hop.now }
+{
+    hop.group.0 == group.0 && hop.source.0 != source.0
+}
+
+// The hops of the other trees of the group, in their order. `NoMemory`: there was no room for them.
+fn others(
+    alloc: Global,
+    hops: &[TreeHop],
+    group: Addr,
+    source: Addr,
+) -> Result<Vec<Known>, NoMemory>
     requires { length hops.now ≤ 8192 }
-    ensures hops { IfOk result (λ all. plain all.items ≡ filter (λ r. not (of_tree group source r)) (plain hops.now)) }
+    ensures hops { IfOk result (λ all. plain all.items ≡ filter (is_beside group source) hops.now) }
     ensures placed { IfOk result (λ all. ArePlaced all.items) }
 {
     let mut all = Vec::new(alloc);
     for hop in hops {
-        if !is_in_tree(hop, group, source) {
-            place(&mut all, hop.hop)?;
+        if is_beside(hop, group, source) {
+            place(&mut all, *hop)?;
         }
     }
     Ok(all)
@@ -56,7 +68,7 @@ fn grow(
     requires placed { ArePlaced all.old.items }
     requires none { tree (plain all.old.items) group source ≡ [] }
     requires few { length all.old.items + length hops.now ≤ 8192 }
-    ensures { (nodes : ℕ) (ks : List Known) → GrownAnswer (net_of nodes ends.now links.now ks) group source hops.now all.old.items all.new.items result }
+    ensures { (nodes : ℕ) (rs : List ATreeHop) → GrownAnswer (net_with nodes ends.now links.now rs) group source hops.now all.old.items all.new.items result }
 {
     for hop in hops {
         let hop = TreeHop {
@@ -89,22 +101,23 @@ fn with_befores(alloc: Global, ends: &[End], hops: &[Known]) -> Result<Vec<Known
     Ok(all)
 }
 
-/// What is kept of the hops of the other trees, and behind them of these as the tree of a group and source.
+/// What is kept of the hops of a group, where these are the hops of all trees before: those of the other trees of the group,
+/// and behind them these as the tree of the group and source.
 pub(crate) fn with_tree(
     alloc: Global,
     ends: &[End],
     links: &[Link],
-    hops: &[Known],
+    hops: &[TreeHop],
     group: Addr,
     source: Addr,
     tree: &[LinkHop],
 ) -> Result<Vec<Known>, HopErr>
     requires few { length hops.now ≤ 8192 }
-    requires room { length (rerouted (net_of 0 ends.now links.now hops.now) group source tree.now).hops ≤ 8192 }
-    ensures hops { IfOk result (λ all. plain all.items ≡ (rerouted (net_of 0 ends.now links.now hops.now) group source tree.now).hops) }
+    requires room { length (rerouted (net_with 0 ends.now links.now hops.now) group source tree.now).hops ≤ 8192 }
+    ensures hops { IfOk result (λ all. plain all.items ≡ (part group (rerouted (net_with 0 ends.now links.now hops.now) group source tree.now)).hops) }
     ensures known { IfOk result (λ all. AreKnown ends.now all.items) }
-    ensures grown { (nodes : ℕ) → IfOk result (λ all. IsGrown (net_of nodes ends.now links.now hops.now) source tree.now) }
-    ensures err { (nodes : ℕ) → IfErr result (IsRefused (net_of nodes ends.now links.now hops.now) source tree.now) }
+    ensures grown { (nodes : ℕ) → IfOk result (λ all. IsGrown (net_with nodes ends.now links.now hops.now) source tree.now) }
+    ensures err { (nodes : ℕ) → IfErr result (IsRefused (net_with nodes ends.now links.now hops.now) source tree.now) }
 {
     let Ok(mut all) = others(alloc, hops, group, source) else {
         return Err(HopErr::NoMemory);

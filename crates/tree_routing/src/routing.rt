@@ -11,8 +11,8 @@ ghost use Rattle.tree_routing.specs.Routes.{inward_iface, LeavesBy};
 use crate::ask::{link_of, node_of};
 use crate::group_hop::GroupHop;
 use crate::in_order::{is_among, of_tree};
-use crate::known::Known;
 use crate::link::Link;
+use crate::ranked::RankedHop;
 use crate::ways::{hop_into, iface_of, ways_out};
 use rsvp_base::Addr;
 use std::alloc::Global;
@@ -28,10 +28,12 @@ pub struct Routing {
     pub(crate) nodes: u16,
     pub(crate) ends: Vec<End>,
     pub(crate) links: Vec<Link>,
-    pub(crate) hops: Vec<Known>,
+    // The hops of all trees, in the order in which they were added.
+    pub(crate) hops: Vec<TreeHop>,
     // The length of the longest chain.
     pub(crate) chain: u16,
-    // The hops of all groups, by rank.
+    // The hops of all groups, by rank, with their ranks and without.
+    pub(crate) ranked: Vec<RankedHop>,
     pub(crate) order: Vec<GroupHop>,
     // The group and source of each tree, in order.
     pub(crate) trees: Vec<(Addr, Addr)>,
@@ -40,13 +42,13 @@ pub struct Routing {
 }
 
 impl Model for Routing {
-    ghost use Rattle.std.specs.Prelude.{◌≡◌};
+    ghost use Rattle.std.specs.Prelude.{◌≡◌, map};
     ghost use Rattle.tree_model.specs.Networks.{Net};
     ghost use Rattle.tree_model.specs.Codes.{net_code};
     ghost use Rattle.tree_model.specs.Ranks.{longest};
     ghost use Rattle.tree_model.specs.Valid.{IsValid};
-    ghost use Rattle.tree_routing.specs.Known.{plain, net_of};
-    ghost use Rattle.tree_routing.specs.Order.{AreByRank};
+    ghost use Rattle.tree_routing.specs.Known.{net_with};
+    ghost use Rattle.tree_routing.specs.Order.{AreByRank, HaveRanks, group_hop_of};
     ghost use Rattle.tree_routing.specs.Routes.{AreInOrder};
     ghost use Rattle.tree_model.specs.Trees.{trees_of};
 
@@ -54,12 +56,14 @@ impl Model for Routing {
 
     ghost coded = { net_code };
 
-    ghost view = { λ r. net_of r.nodes r.ends.items r.links.items r.hops.items };
+    ghost view = { λ r. net_with r.nodes r.ends.items r.links.items r.hops.items };
 
-    ghost invariant = { λ r. IsValid (net_of r.nodes r.ends.items r.links.items r.hops.items)
-        × (r.chain ≡ longest (net_of r.nodes r.ends.items r.links.items r.hops.items))
-        × (r.trees.items ≡ trees_of (plain r.hops.items)) × AreInOrder (plain r.hops.items) r.sorted.items
-        × AreByRank (net_of r.nodes r.ends.items r.links.items r.hops.items) r.order.items };
+    ghost invariant = { λ r. IsValid (net_with r.nodes r.ends.items r.links.items r.hops.items)
+        × (r.chain ≡ longest (net_with r.nodes r.ends.items r.links.items r.hops.items))
+        × (r.trees.items ≡ trees_of r.hops.items) × AreInOrder r.hops.items r.sorted.items
+        × AreByRank (net_with r.nodes r.ends.items r.links.items r.hops.items) r.order.items
+        × HaveRanks (net_with r.nodes r.ends.items r.links.items r.hops.items) r.ranked.items
+        × (r.order.items ≡ map group_hop_of r.ranked.items) };
 }
 
 impl Routing {

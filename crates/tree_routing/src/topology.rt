@@ -1,5 +1,6 @@
 //! The topology of a network, as it is put together.
-ghost use Rattle.std.specs.List.{list_all};
+ghost use Rattle.std.specs.List.{list_all, list_any};
+ghost use Rattle.tree_model.specs.Trees.{of_tree};
 ghost use Rattle.tree_routing.specs.Found.{are_apart, is_free};
 ghost use Rattle.std.specs.Prelude.{◌≡◌, ◌≢◌, ◌↔◌, ◌&&◌, ◌<◌, ◌≤◌, ◌+◌, length, map, [], ◌∷◌, ◌++◌, IsTrue, IsOk, IfOk, OnOk, OnErr};
 ghost use Rattle.tree_model.specs.declared.hops.TreeHop.{TreeHop};
@@ -8,7 +9,7 @@ ghost use Rattle.tree_model.specs.Valid.{IsValid};
 ghost use Rattle.tree_routing.specs.Known.{net_of, vertex_at, vertex_before};
 ghost use Rattle.tree_routing.specs.Answers.{no_net, TakesEnd, TakesLink, with_node, with_end, with_link, with_hop, Fits, HopAnswer, with_latency};
 
-use crate::ask::{are_apart, are_free, link_of, node_of, owner};
+use crate::ask::{are_apart, are_free, has_tree, link_of, node_of, owner};
 use crate::growing::{can_grow, know};
 use crate::hop_err::HopErr;
 use crate::known::Known;
@@ -207,6 +208,13 @@ impl Topology {
         ensures { IsTrue result ↔ (length self.now.hops < 8192) }
     {
         self.hops.len() < 8192
+    }
+
+    /// Whether the tree of a group and source has a hop.
+    pub fn has_tree(&self, group: Addr, source: Addr) -> bool
+        ensures { result ≡ list_any (of_tree group source) self.now.hops }
+    {
+        has_tree(self.hops.as_slice(), group, source)
     }
 
     /// Adds a hop, where there is room for one, to the tree of its group and source, whose root is the node that has the end

@@ -26,20 +26,6 @@ returns-in_err-hops-clause-asked c = λ e.
     looked_up d c.args.line c.in-Some.source c.as_slice.result.now (record { addr = parts.0; group = parts.1; source = parts.2 }) c.in-Some.ensures.value.1 c.as_slice.ensures
     (c.are_declared.ensures.0 c.if-not-are_declared.false) (subst (λ (o : Option ℕ). IsSome o) c.owner.ensures c.if-is_none.ensures)
 
-pub returns-in_err-copy-clause-asked : goal.returns-in_err-copy-clause-asked
-returns-in_err-copy-clause-asked c = λ e.
-    let d = draft_of c.args.state.now in
-    let parts = c.in-Some.ensures.some.0 refl in
-    looked_up d c.args.line c.in-Some.source c.as_slice.result.now (record { addr = parts.0; group = parts.1; source = parts.2 }) c.in-Some.ensures.value.1 c.as_slice.ensures
-    (c.are_declared.ensures.0 c.if-not-are_declared.false) (subst (λ (o : Option ℕ). IsSome o) c.owner.ensures c.if-is_none.ensures)
-
-pub returns-in_err-declared-clause-asked : goal.returns-in_err-declared-clause-asked
-returns-in_err-declared-clause-asked c = λ e.
-    let d = draft_of c.args.state.now in
-    let parts = c.in-Some.ensures.some.0 refl in
-    looked_up d c.args.line c.in-Some.source c.as_slice.result.now (record { addr = parts.0; group = parts.1; source = parts.2 }) c.in-Some.ensures.value.1 c.as_slice.ensures
-    (c.are_declared.ensures.0 c.if-not-are_declared.false) (subst (λ (o : Option ℕ). IsSome o) c.owner.ensures c.if-is_none.ensures)
-
 pub returns-in_err-routing-clause-asked : goal.returns-in_err-routing-clause-asked
 returns-in_err-routing-clause-asked c = λ e.
     let d = draft_of c.args.state.now in
@@ -55,8 +41,8 @@ returns-in_err-routing-clause-refused c =
     let in_range : IsRerouteInRange line = record { addr = parts.0; group = parts.1; source = parts.2 } in
     let tree = c.in-Some.ensures.value in
     let ends = c.are_declared.ensures.0 c.if-not-are_declared.false in
-    let known = routes_known d line c.in-Some.group c.in-Some.source c.as_slice.result.now c.in_ok-declared.declared tree.0 tree.1 c.as_slice.ensures
-    (c.in_ok-declared.ensures ∙ c.in_ok-copy.ensures) ends
+    let known = routes_known d line c.in-Some.group c.in-Some.source c.as_slice.result.now c.args.state.now.topology tree.0 tree.1 c.as_slice.ensures
+    refl ends
     (subst (λ (o : Option ℕ). IsSome o) c.owner.ensures c.if-is_none.ensures) (sym c.has_tree.ensures ∙ c.if-not-has_tree.false) in
     let hops : c.in_ok-hops.hops.items ≡ map (hop_value d) c.as_slice-2.result.now = c.in_ok-hops.ensures in
     let are : c.as_slice-3.result.now ≡ hop_values d line = c.as_slice-3.ensures.value ∙ hops ∙ ap (map (hop_value d)) c.as_slice-2.ensures in
@@ -71,8 +57,8 @@ returns-clause-ok c =
     let in_range : IsRerouteInRange line = record { addr = parts.0; group = parts.1; source = parts.2 } in
     let tree = c.in-Some.ensures.value in
     let ends = c.are_declared.ensures.0 c.if-not-are_declared.false in
-    let known = routes_known d line c.in-Some.group c.in-Some.source c.as_slice.result.now c.in_ok-declared.declared tree.0 tree.1 c.as_slice.ensures
-    (c.in_ok-declared.ensures ∙ c.in_ok-copy.ensures) ends
+    let known = routes_known d line c.in-Some.group c.in-Some.source c.as_slice.result.now c.args.state.now.topology tree.0 tree.1 c.as_slice.ensures
+    refl ends
     (subst (λ (o : Option ℕ). IsSome o) c.owner.ensures c.if-is_none.ensures) (sym c.has_tree.ensures ∙ c.if-not-has_tree.false) in
     let hops : c.in_ok-hops.hops.items ≡ map (hop_value d) c.as_slice-2.result.now = c.in_ok-hops.ensures in
     let are : c.in_ok-hops.hops.items ≡ hop_values d line = hops ∙ ap (map (hop_value d)) c.as_slice-2.ensures in
