@@ -1,2 +1,2 @@
 mod Telling
-mod Renewed
+pub mod Renewed

@@ -9,7 +9,7 @@ mod paths;
 mod renewal;
 mod via;
 
-pub use offered::Offered;
+pub use offered::{Offered, is_same_flow};
 pub use paths::{tell_gone, tell_gone_ways, tell_new, tell_new_ways, tell_path_tears, tell_paths};
 pub use renewal::{Renewal, tell_renewal};
 pub use via::{name_of, upstream};

@@ -78,8 +78,8 @@ impl Offered {
     }
 }
 
-// Whether two flows are the same.
-pub(crate) fn is_same_flow(a: &Flow, b: &Flow) -> bool
+/// Whether two flows are the same.
+pub fn is_same_flow(a: &Flow, b: &Flow) -> bool
     ensures { result ≡ same_flow a.now b.now }
 {
     flow_merge::le(a, b) && flow_merge::le(b, a)

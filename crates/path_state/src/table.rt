@@ -1,5 +1,6 @@
 //! The table of paths.
 ghost use Rattle.std.specs.Prelude.{◌≡◌, ◌≤◌, ℕ, ◌↔◌, [], false, if◌then◌else◌, nat_lt, length, map, true, IsErr, IsNone, IfOk, IfSome, OnOk, OnErr, Some, slice_get};
+ghost use Rattle.std.specs.Fn.{FnOnceReturnsAt};
 ghost use Rattle.std.specs.List.{list_any};
 ghost use Rattle.std.specs.Option.{option_copied, option_map};
 ghost use Rattle.rsvp_base.specs.Orders.{sessions, senders};
@@ -82,6 +83,30 @@ impl PathTable {
     {
         self.limits();
         self.keep(fact, left);
+    }
+
+    /// Leaves this much of the fact of a session and sender, in milliseconds, where it passes a test; the fact stays in its place.
+    /// False exactly where there is none, or it does not pass; nothing changes then. No dead fact may wait.
+    pub fn renew_if<P: FnOnce(&PathFact) -> bool>(
+        &mut self,
+        session: Session,
+        sender: Sender,
+        left: u32,
+        passes: P,
+    ) -> bool
+        requires some { 1 ≤ left }
+        requires pulled { self.old.dead.rows ≡ [] }
+        requires tested { P.IsAlwaysCallable passes }
+        ensures renewed { result ≡ true → (fact : PathFact) × (was : ℕ)
+            × (get self.old.facts (session, sender) ≡ Some (fact, was))
+            × FnOnceReturnsAt P.FnOnce passes fact true
+            × (self.new ≡ record self.old { facts = put_in self.old.facts (session, sender) (fact, left) }) }
+        ensures other { result ≡ false → (fact : PathFact) (was : ℕ)
+            → get self.old.facts (session, sender) ≡ Some (fact, was)
+            → FnOnceReturnsAt P.FnOnce passes fact false }
+        ensures unchanged { result ≡ false → self.new ≡ self.old }
+    {
+        self.table.renew_if(session, sender, left, passes)
     }
 
     // Keeps a fact for which there is room.
