@@ -20,3 +20,4 @@ pub mod Here
 pub mod TornDown
 pub mod Reserving
 pub mod Staying
+pub mod Repeating

@@ -1,5 +1,7 @@
 -- A path or a local sender comes or goes, by the tables, with the countdown of its session.
-use Rattle.std.specs.Prelude.{ℕ, ◌+◌, true, cond}
+use Rattle.std.specs.Prelude.{ℕ, ◌+◌, ◌==◌, ◌&&◌, Bool, true, cond}
+use Rattle.std.specs.Bool.{beq}
+use Rattle.adspec_path.specs.Same.{same_told}
 use Rattle.path_state.specs.declared.fact.PathFact.{PathFact}
 use Rattle.rsvp_base.specs.Table.{without}
 use Rattle.rsvp_base.specs.TokenBucket.{TokenBucket}
@@ -8,6 +10,8 @@ use Rattle.rsvp_base.specs.declared.session.Session.{Session}
 use Rattle.rsvp_messages.specs.declared.message.PathMsg.{PathMsg}
 use Rattle.router_rules.specs.Facts.{PathState, SenderKey}
 use Rattle.router_rules.specs.Inputs.{Stale, StalePath}
+use Rattle.router_rules.specs.NodeConfig.{is_addr}
+use Rattle.router_rules.specs.Sends.{same_flow}
 use Rattle.router_state.specs.State.{State}
 use Rattle.router_state.specs.Changes.{counts_in, paths_put, paths_without, recounted, senders_put, senders_without}
 use Rattle.router_aging.specs.Passing.{counts}
@@ -16,6 +20,12 @@ use Rattle.router_aging.specs.Steps.{names_gone}
 -- what a Path that came by an interface says of its sender
 abbrev pub fact_of : ℕ → PathMsg → Sender → TokenBucket → PathFact
 fact_of e m x tspec = record { session = m.session; sender = x; iface = e; hop = m.hop; tspec = tspec; police = m.police; adspec = m.adspec }
+
+-- whether a path is that
+abbrev pub is_said_again : ℕ → PathMsg → TokenBucket → PathFact → Bool
+is_said_again e m tspec f =
+    (f.iface == e)
+    && (is_addr f.hop.addr m.hop.addr && ((f.hop.handle == m.hop.handle) && (same_flow f.tspec tspec && (beq f.police m.police && same_told f.adspec m.adspec))))
 
 abbrev pub with_path : State → SenderKey → PathFact → ℕ → State
 with_path n k fact left = recounted (paths_put n k fact left) k.0 true

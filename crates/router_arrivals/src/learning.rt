@@ -1,14 +1,17 @@
 //! Paths and local senders come into the tables.
-ghost use Rattle.std.specs.Prelude.{◌≡◌, ◌≤◌, [], true, cond};
+ghost use Rattle.std.specs.Prelude.{◌≡◌, ◌≤◌, ◌↔◌, [], Some, true, false, cond, IsTrue};
+ghost use Rattle.std.specs.Option.{option_map};
 ghost use Rattle.rsvp_base.specs.Orders.{senders};
 ghost use Rattle.rsvp_base.specs.SessionLimits.{has_room_at};
-ghost use Rattle.rsvp_base.specs.Table.{empty, has, put_in};
+ghost use Rattle.rsvp_base.specs.Table.{empty, get, has, put_in};
 ghost use Rattle.router_rules.specs.NodeConfig.{lifetime};
 ghost use Rattle.router_state.specs.Changes.{advertised_put};
 ghost use Rattle.router_state.specs.State.{IsSettled};
 ghost use Rattle.router_state.specs.Whole.{state_of};
-ghost use Rattle.router_arrivals.specs.Coming.{fact_of, path_key, with_path, with_sender};
+ghost use Rattle.router_arrivals.specs.Coming.{fact_of, is_said_again, path_key, with_path, with_sender};
 
+use adspec_path::same_told;
+use path_sends::is_same_flow;
 use path_state::{PathFact, copy_of};
 use router_state::Tables;
 use rsvp_base::{Flow, Sender, Session};
@@ -57,6 +60,51 @@ pub fn renew_path(tables: &mut Tables, iface: u8, message: &PathMsg, sender: Sen
     let (fact, left) = said_of(tables, iface, message, sender, tspec);
     tables.paths.limits();
     tables.paths.renew(fact, left);
+}
+
+/// Keeps the path of a sender for as long as a Path says, where the Path says again exactly what is kept of it: the path stays in its
+/// place, and its time alone is set. False exactly where it says anything else, or there is no path; nothing changes then.
+pub fn repeat_path(
+    tables: &mut Tables,
+    iface: u8,
+    message: &PathMsg,
+    sender: Sender,
+    tspec: Flow,
+) -> bool
+    requires pulled { tables.old.paths.dead.rows ≡ [] }
+    requires settled { IsSettled (state_of tables.old empty) }
+    ensures stands { IsTrue result
+        ↔ (option_map (λ e. e.0) (get tables.old.paths.facts (message.now.session, sender)) ≡ Some (fact_of iface message.now sender tspec)) }
+    ensures room { result ≡ true → has_room_at senders
+        (put_in tables.old.paths.facts (message.now.session, sender) (fact_of iface message.now sender tspec, lifetime tables.old.config message.now.period))
+        message.now.session ≡ true }
+    ensures state { state_of tables.new empty
+        ≡ cond result
+        (with_path (state_of tables.old empty) (message.now.session, sender) (fact_of iface message.now sender tspec) (lifetime tables.old.config message.now.period))
+        (state_of tables.old empty) }
+    ensures rest { tables.new ≡ record tables.old { paths = tables.new.paths } }
+    ensures pulled { tables.new.paths.dead.rows ≡ [] }
+    ensures unchanged { result ≡ false → tables.new ≡ tables.old }
+{
+    let life = tables.config.lifetime(message.period);
+    tables.paths.limits();
+    tables
+        .paths
+        .renew_if(message.session, sender, life, |fact| {
+            is_said_again(fact, iface, message, tspec)
+        })
+}
+
+// Whether a path is what a Path says of its sender.
+fn is_said_again(fact: &PathFact, iface: u8, message: &PathMsg, tspec: Flow) -> bool
+    ensures { result ≡ is_said_again iface message.now tspec fact.now }
+{
+    fact.iface == iface
+        && fact.hop.addr == message.hop.addr
+        && fact.hop.handle == message.hop.handle
+        && is_same_flow(&fact.tspec, &tspec)
+        && fact.police == message.police
+        && same_told(&fact.adspec, &message.adspec)
 }
 
 // What a Path that came by an interface says of its sender, and for how long, in milliseconds.

@@ -18,7 +18,7 @@ mod telling;
 mod withdrawal;
 
 pub use asking::{drop_wants, put_wants};
-pub use learning::{advertise_sender, keep_path, keep_sender, learn_path, renew_path};
+pub use learning::{advertise_sender, keep_path, keep_sender, learn_path, renew_path, repeat_path};
 pub use resvs::{take_resvs, tear_resvs};
 pub use stale_facts::{leave_resv, leave_wall};
 pub use taking::{Answer, asker_of, take_resv};

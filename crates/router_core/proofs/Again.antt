@@ -1,30 +1,37 @@
 -- A Path from the hop that the path of its sender came from: what goes toward each hop is what went there before.
-use Rattle.std.specs.Prelude.{◌≡◌, ℕ, ◌+◌, Bool, true, false, cond, is_some, [], Option, Some, None, IfSome, refl}
+use Rattle.std.specs.Prelude.{◌≡◌, ℕ, ◌+◌, Bool, true, fold, is_some, [], Option, Some, None, refl}
 use Rattle.std.specs.Option.{option_map}
-use Rattle.std.proofs.Common.{sym, ap, subst, ◌∙◌}
+use Rattle.std.proofs.Common.{sym, ap, ◌∙◌}
+use Rattle.std.proofs.lemmas.Bool.{eq-eqb}
 use Rattle.path_state.specs.Paths.{path_keys}
 use Rattle.path_state.specs.declared.fact.PathFact.{PathFact}
+use Rattle.path_sends.proofs.Renewed.{is_no_news}
 use Rattle.path_sends.specs.Offering.{passed_offer}
 use Rattle.rsvp_base.specs.Table.{get, has, put_in}
 use Rattle.rsvp_base.specs.Orders.{senders}
 use Rattle.rsvp_base.specs.SessionLimits.{has_room_at}
 use Rattle.rsvp_base.specs.TokenBucket.{TokenBucket}
 use Rattle.rsvp_base.specs.declared.session.Sender.{Sender}
+use Rattle.rsvp_base.proofs.SetLaws.{and_made}
 use Rattle.rsvp_base.proofs.Tables.{get-changed, get-put_in_same, then_do}
+use Rattle.rsvp_messages.specs.declared.message.Message.TheVariants as message
 use Rattle.rsvp_messages.specs.declared.message.PathMsg.{PathMsg}
 use Rattle.style_rules.specs.Lines.{NextHop}
 use Rattle.style_rules.specs.Toward.{or_else}
 use Rattle.router_rules.specs.Facts.{PathState, SenderKey}
-use Rattle.router_rules.specs.Inputs.{only_heard}
+use Rattle.router_rules.specs.Inputs.{Send, Spelt, only_heard}
 use Rattle.router_rules.specs.Known.{Lane}
 use Rattle.router_rules.specs.NodeConfig.{NodeConfig, comes_in, lifetime}
 use Rattle.router_rules.specs.Offers.{Offer, own_offer, path_offer}
 use Rattle.router_rules.specs.Paths.{is_path_by}
 use Rattle.router_rules.specs.Requests.{toward}
+use Rattle.router_rules.specs.Rule.{facts_after, heard_after, sent_after}
 use Rattle.router_rules.specs.Sends.{sends}
 use Rattle.router_rules.specs.declared.answers.Heard.{Heard}
-use Rattle.laws_inputs.proofs.Tests.{came_told}
-use Rattle.router_state.specs.State.{IsSaid, IsSettled, Said, State, facts_of, path_at}
+use Rattle.router_rules.specs.declared.answers.Heard.TheVariants as heard
+use Rattle.laws_inputs.proofs.Tests.{addr_tested, came_told, not_new}
+use Rattle.router_state.specs.Changes.{path_came}
+use Rattle.router_state.specs.State.{IsSaid, IsSettled, Said, State, facts_at, facts_of, path_at}
 use Rattle.router_state.proofs.Settling.{has_changed}
 use Rattle.laws_sends.specs.Changed.{IsChangedFor}
 use Rattle.laws_sends.specs.Told.{offered, told_gone, told_new}
@@ -34,7 +41,8 @@ use Rattle.resv_sends.proofs.Sent.{own_seen, path_seen}
 use Rattle.router_arrivals.specs.Coming.{fact_of, with_path}
 use Rattle.router_arrivals.proofs.Doing.{path_comes}
 use Rattle.router_arrivals.proofs.Keeping.{put_there}
-use Rattle.router_arrivals.proofs.Ruled.{without_marks}
+use Rattle.router_arrivals.proofs.Offering.{path_by}
+use Rattle.router_arrivals.proofs.Ruled.{IsPlain, heard_is, plain_facts, plain_sent, without_marks}
 use Rattle.path_sends.specs.declared.renewal.Renewal.{Renewal}
 use Rattle.path_sends.specs.Renewing.{AreNews, offer_by, own_of}
 use Rattle.router_core.proofs.Quiet.{marks_wait, quiet_sends}
@@ -124,7 +132,13 @@ module _ (n w : State) (k : SenderKey) (fact : PathFact) (left : ℕ) (said : Sa
   pub marks_again : (c : ℕ) → facts_of c w ≡ without_marks n.place (facts_of c n) (facts_of c w) None
   marks_again c = sym (marks_wait n.place (facts_of c n) (facts_of c w) (toward_again c n.place) None)
 
--- whether or not there was room, the node is settled then, and what was said is what goes there
+-- a path that is what a Path says came by its hop
+pub said_by_hop : (e : ℕ) (p : PathMsg) (x : Sender) (tspec : TokenBucket) (n : State) → option_map (λ (o : PathFact × ℕ). o.0) (get n.paths (p.session, x)) ≡ Some (fact_of e p x tspec) → (c : ℕ)
+    → is_path_by (e, p.hop.addr) (get (facts_of c n).paths (p.session, x)) ≡ true
+said_by_hop e p x tspec n same c =
+    sym (path_by c n (p.session, x) (e, p.hop.addr) (Some (fact_of e p x tspec)) (sym same)) ∙ and_made _ _ (eq-eqb e e refl) (addr_tested p.hop.addr p.hop.addr refl)
+
+-- where there is room for what it says it does as the rule
 module _ (m : State) (said : Said) (kept : IsSettled (record m { said = said })) (told : IsSaid said (record m { said = said })) (e : ℕ) (p : PathMsg) (x : Sender) (tspec : TokenBucket)
     (is : p.sender ≡ Some (x, tspec)) (on : comes_in m.place p.session e x ≡ true)
     (by : (c : ℕ) → is_path_by (e, p.hop.addr) (get (facts_of c (record m { said = said })).paths (p.session, x)) ≡ true) where
@@ -140,9 +154,43 @@ module _ (m : State) (said : Said) (kept : IsSettled (record m { said = said }))
   abbrev lives : ℕ
   lives = lifetime m.place p.period
 
-  pub settled_again : (w : State) (b : Bool) → b ≡ has_room_at senders (put_in m.paths key (learnt, lives)) p.session → w ≡ record (cond b (with_path m key learnt lives) m) { said = said }
-      → IsSettled w × IsSaid said w
-  settled_again w true room now =
-      let r = (path_comes was kept e p x tspec is on (sym room) w said now).ruled in
-      (r.kept, said_again was w key learnt lives said now by r.change.place told)
-  settled_again w false room now = (subst IsSettled (sym now) kept, subst (IsSaid said) (sym now) told)
+  module _ (w : State) (room : has_room_at senders (put_in m.paths key (learnt, lives)) p.session ≡ true) (now : w ≡ record (with_path m key learnt lives) { said = said }) where
+    comes : IsPlain key was (path_came e p) heard.Taken w
+    comes = path_comes was kept e p x tspec is on room w said now
+
+    -- it is settled then, and what was said is what goes there
+    pub kept_again : IsSettled w × IsSaid said w
+    kept_again = (comes.ruled.kept, said_again was w key learnt lives said now by comes.ruled.change.place told)
+
+    -- the path that stood is the one that comes
+    module _ (same : option_map (λ (o : PathFact × ℕ). o.0) (get m.paths key) ≡ Some learnt) where
+      nothing_new : (c : ℕ) → told_new m.place key (offered (facts_of c was) key) (offered (facts_of c w) key) ≡ []
+      nothing_new c =
+          let own = own_at was key in
+          let o = offer_by own learnt.tspec learnt.adspec in
+          let before : Some o ≡ offered (facts_of c was) key = offers c was key own refl learnt same in
+          let after : Some o ≡ offered (facts_of c w) key = offers_again was w key learnt lives said now by c own refl in
+          (λ i. told_new m.place key (sym before i) (sym after i)) ∙ is_no_news None refl o o (λ q i. not_new q i o) m.place key
+
+    -- as the node is seen
+    module _ (self : State) (view : was ≡ self) (c : ℕ) where
+      pub facts_again : facts_at c w ≡ facts_after self.place self.place c (path_came e p) (facts_at c self)
+      facts_again = plain_facts was self view (λ z. path_came e p) refl heard.Taken c key w comes w (marks_again was w key learnt lives said now by c)
+
+      pub heard_again : heard.Taken ≡ heard_after self.place c e p.session.group (Spelt (message.Path p)) (facts_at c self)
+      heard_again =
+          heard_is was c e p.session.group (Spelt (message.Path p)) _ heard.Taken (comes.does c)
+          ∙ ap (λ (z : State). heard_after z.place c e p.session.group (Spelt (message.Path p)) (facts_at c z)) view
+
+      pub told_again : {B : Type 0} (posted : B → Send → B) (last out : B) → last ≡ fold posted out (told_new m.place key (offered (facts_of c was) key) (offered (facts_of c w) key))
+          → last ≡ fold posted out (sent_after self.place self.place c (path_came e p) (facts_at c self))
+      told_again posted last out told =
+          plain_sent was self view (λ z. path_came e p) refl heard.Taken c key w comes posted last out
+          (told ∙ ap (fold posted out) (sym (sent_again was w key learnt lives said now by comes.ruled.change c heard.Taken)))
+
+      pub none_told : {B : Type 0} (posted : B → Send → B) (out : B) → option_map (λ (o : PathFact × ℕ). o.0) (get m.paths key) ≡ Some learnt
+          → out ≡ fold posted out (sent_after self.place self.place c (path_came e p) (facts_at c self))
+      none_told posted out same = told_again posted out out (ap (fold posted out) (sym (nothing_new same c)))
+
+      pub place_again : w.place ≡ self.place
+      place_again = sym comes.ruled.change.place ∙ ap (λ (z : State). z.place) view

@@ -17,7 +17,7 @@ ghost use Rattle.path_state.specs.declared.fact.PathFact.{PathFact};
 use crate::node::Node;
 use path_sends::{Renewal, tell_renewal};
 use resv_sends::{PriorOffer, offered, tell_sender};
-use router_arrivals::{drop_path, has_path_by, learn_path, path_by, renew_path};
+use router_arrivals::{drop_path, has_path_by, learn_path, path_by, renew_path, repeat_path};
 use router_rules::{Heard, Outbox, Why};
 use router_state::{Config, Tables};
 use rsvp_base::{Flow, Sender};
@@ -36,6 +36,28 @@ impl Node {
             Ok(named) => named,
             Err(why) => return Heard::Dropped(why),
         };
+        if repeat_path(&mut self.tables, iface, message, sender, tspec) {
+            return Heard::Taken;
+        }
+        self.take_path(iface, message, sender, tspec, out)
+    }
+
+    // A Path arrives by the interface that leads to its sender. It is taken where there is room for it.
+    fn take_path<O: Outbox>(
+        &mut self,
+        iface: u8,
+        message: &PathMsg,
+        sender: Sender,
+        tspec: Flow,
+        out: &mut O,
+    ) -> Heard
+        requires sender { message.now.sender ≡ Some (sender, tspec) }
+        requires inward { comes_in self.old.place message.now.session iface sender ≡ true }
+        ensures facts { (c : ℕ) → facts_at c self.new ≡ facts_after self.old.place self.old.place c (path_came iface message.now) (facts_at c self.old) }
+        ensures heard { (c : ℕ) → result ≡ heard_after self.old.place c iface message.now.session.group (Spelt (message_of.Path message.now)) (facts_at c self.old) }
+        ensures sent { (c : ℕ) → out.new ≡ fold O.posted out.old (sent_after self.old.place self.old.place c (path_came iface message.now) (facts_at c self.old)) }
+        ensures place { self.new.place ≡ self.old.place }
+    {
         let session = message.session;
         if let Some(renewal) = renewal_by(&self.tables, iface, message, sender, tspec) {
             return self.renew_path(iface, message, sender, tspec, &renewal, out);

@@ -1,17 +1,15 @@
-use Rattle.std.proofs.Common.{◌≡◌, true, sym, ap, ◌∙◌}
+use Rattle.std.proofs.Common.{ap, ◌∙◌}
 use Rattle.path_state.specs.Paths.{PathMap}
 use Rattle.path_state.specs.declared.fact.PathFact.{PathFact}
 use Rattle.rsvp_base.specs.Orders.{senders}
 use Rattle.rsvp_base.specs.Table.{empty, has, put_in}
 use Rattle.rsvp_base.proofs.SessionCounts.{room_over}
-use Rattle.rsvp_base.proofs.SetLaws.{or_right}
 use Rattle.router_rules.specs.Facts.{SenderKey}
-use Rattle.router_rules.specs.NodeConfig.{lifetime, period}
-use Rattle.router_state.specs.Changes.{started}
+use Rattle.router_rules.specs.NodeConfig.{lifetime}
 use Rattle.router_state.specs.State.{State}
 use Rattle.router_state.specs.Whole.{state_of}
 use Rattle.router_arrivals.specs.Coming.{fact_of, path_key}
-use Rattle.router_arrivals.proofs.Keeping.{counts_by}
+use Rattle.router_arrivals.proofs.Repeating.{kept_anew}
 use Rattle.router_arrivals.proofs.learning.renew_path.Goals as goal
 
 pub renew-requires-clause-stands : goal.renew-requires-clause-stands
@@ -26,12 +24,11 @@ pub returns-clause-state : goal.returns-clause-state
 returns-clause-state c =
     let n : State = state_of c.args.tables.now empty in
     let k : SenderKey = (c.args.message.now.session, c.args.sender) in
-    let due : has n.due k.0 ≡ true = c.requires.settled.counted 0 k.0 ∙ sym (counts_by n k (or_right (has n.senders k) _ c.requires.stands) 0) in
     let fact = fact_of c.args.iface c.args.message.now c.args.sender c.args.tspec in
     let left = lifetime c.args.tables.now.config c.args.message.now.period in
     (λ i. record n { paths = (c.renew.ensures i).facts })
     ∙ (λ i. record n { paths = put_in n.paths (path_key (c.said_of-fact.ensures.fact i)) (c.said_of-fact.ensures.fact i, c.said_of-fact.ensures.left i) })
-    ∙ (λ i. record n { paths = put_in n.paths k (fact, left); due = started (sym due i) k.0 (period n.place) n.due })
+    ∙ kept_anew n c.requires.settled k c.requires.stands fact left
 
 pub returns-clause-pulled : goal.returns-clause-pulled
 returns-clause-pulled c = ap (λ (m : PathMap). m.dead.rows) c.renew.ensures ∙ c.requires.pulled

@@ -1,27 +1,22 @@
-use Rattle.std.proofs.Common.{◌≡◌, ℕ, true, Some, fold, sym, ap, subst, ◌∙◌, refl}
+use Rattle.std.proofs.Common.{◌≡◌, ℕ, true, Some, fold, sym, ap, subst, ◌∙◌}
 use Rattle.std.specs.Option.{option_map}
 use Rattle.path_state.specs.declared.fact.PathFact.{PathFact}
 use Rattle.rsvp_base.specs.Table.{empty, get, has}
 use Rattle.rsvp_messages.specs.declared.message.Message.TheVariants as message
 use Rattle.router_rules.specs.Facts.{SenderKey}
-use Rattle.router_rules.specs.Inputs.{Spelt}
 use Rattle.router_rules.specs.NodeConfig.{comes_in, lifetime}
 use Rattle.router_rules.specs.Paths.{is_path_by}
-use Rattle.router_rules.specs.Rule.{heard_after}
-use Rattle.router_rules.specs.declared.answers.Heard.TheVariants as heard
-use Rattle.router_state.specs.Changes.{path_came}
-use Rattle.router_state.specs.State.{State, facts_at, facts_of}
+use Rattle.router_state.specs.State.{State, facts_of}
 use Rattle.laws_sends.specs.Told.{told_new}
 use Rattle.router_state.specs.Whole.{state_of}
-use Rattle.router_arrivals.specs.Coming.{fact_of}
+use Rattle.router_arrivals.specs.Coming.{fact_of, with_path}
 use Rattle.router_arrivals.proofs.Before.{settled_with}
-use Rattle.router_arrivals.proofs.Doing.{path_comes}
 use Rattle.router_arrivals.proofs.Offering.{came_there}
-use Rattle.router_arrivals.proofs.Ruled.{heard_is, plain_facts, plain_sent}
 use Rattle.path_sends.specs.Renewing.{AreNews, offer_by, own_of}
-use Rattle.router_core.proofs.Again.{marks_again, renewal_told, sent_again, settled_again}
+use Rattle.router_core.proofs.Again.{facts_again, heard_again, kept_again, place_again, renewal_told, told_again}
 use Rattle.router_core.proofs.Told.{paths_only, still_of_place, still_sound}
 use Rattle.router_core.proofs.node.Node.renew_path.Goals as goal
+use Rattle.router_core.proofs.node.Node.renew_path.Goals.{After-renew_path}
 
 pub renew_path-requires-clause-pulled : goal.renew_path-requires-clause-pulled
 renew_path-requires-clause-pulled g c =
@@ -31,77 +26,67 @@ pub renew_path-requires-clause-settled : goal.renew_path-requires-clause-settled
 renew_path-requires-clause-settled g c =
     settled_with (state_of c.self.inside.tables c.self.inside.said) empty c.self.inside.settled
 
+-- the path comes, and takes the place of one from the same hop
+module _ (g : _) (c : After-renew_path g) where
+  abbrev n : State
+  n = state_of c.self.inside.tables c.self.inside.said
+
+  abbrev key : SenderKey
+  key = (c.args.message.now.session, c.args.sender)
+
+  abbrev w : State
+  w = state_of c.renew_path.new.tables c.self.inside.said
+
+  on : comes_in n.place c.args.message.now.session c.args.iface c.args.sender ≡ true
+  on = ap (λ (z : State). comes_in z.place c.args.message.now.session c.args.iface c.args.sender) c.self.view_is ∙ c.requires.inward
+
+  by : (d : ℕ) → is_path_by (c.args.iface, c.args.message.now.hop.addr) (get (facts_of d n).paths key) ≡ true
+  by d = ap (λ (z : State). is_path_by (c.args.iface, c.args.message.now.hop.addr) (get (facts_of d z).paths key)) c.self.view_is ∙ c.requires.stands d
+
+  now : w ≡ record (with_path n key (fact_of c.args.iface c.args.message.now c.args.sender c.args.tspec) (lifetime n.place c.args.message.now.period)) { said = c.self.inside.said }
+  now = ap (λ (z : State). record z { said = c.self.inside.said }) c.renew_path.ensures.state
+
+  news : (f : PathFact) → option_map (λ (e : PathFact × ℕ). e.0) (get n.paths key) ≡ Some f
+      → AreNews c.args.renewal.now (offer_by (own_of (has n.advertised key) (get n.senders key)) f.tspec f.adspec)
+      (offer_by (own_of (has n.advertised key) (get n.senders key)) c.args.tspec c.args.message.now.adspec)
+  news f is =
+      subst (λ (z : State). AreNews c.args.renewal.now (offer_by (own_of (has z.advertised key) (get z.senders key)) f.tspec f.adspec)
+      (offer_by (own_of (has z.advertised key) (get z.senders key)) c.args.tspec c.args.message.now.adspec)) (sym c.self.view_is)
+      (c.requires.news f (sym (ap (λ (z : State). option_map (λ (e : PathFact × ℕ). e.0) (get z.paths key)) c.self.view_is) ∙ is))
+
 pub returns-clause-facts : goal.returns-clause-facts
 returns-clause-facts g c = λ clock.
-    let n = state_of c.self.inside.tables c.self.inside.said in
-    let m = c.args.message.now in
-    let on = ap (λ (z : State). comes_in z.place m.session c.args.iface c.args.sender) c.self.view_is ∙ c.requires.inward in
-    let w = state_of c.renew_path.new.tables c.self.inside.said in
-    let k : SenderKey = (m.session, c.args.sender) in
-    let now = ap (λ (z : State). record z { said = c.self.inside.said }) c.renew_path.ensures.state in
-    let p = path_comes n c.self.inside.settled c.args.iface m c.args.sender c.args.tspec c.requires.sender on c.renew_path.ensures.room w c.self.inside.said now in
-    let fact = fact_of c.args.iface m c.args.sender c.args.tspec in
-    let left = lifetime n.place m.period in
-    let by : (d : ℕ) → is_path_by (c.args.iface, m.hop.addr) (get (facts_of d n).paths k) ≡ true =
-    λ d. ap (λ (z : State). is_path_by (c.args.iface, m.hop.addr) (get (facts_of d z).paths k)) c.self.view_is ∙ c.requires.stands d in
-    plain_facts n c.args.self.now c.self.view_is (λ z. path_came c.args.iface m) refl heard.Taken clock k w p w (marks_again n w k fact left c.self.inside.said now by clock)
+    let d = (goal.at.returns-clause-facts g c).After-renew_path in
+    facts_again (n g d) c.self.inside.said c.self.inside.settled c.self.inside.told c.args.iface c.args.message.now c.args.sender c.args.tspec c.requires.sender (on g d) (by g d)
+    (w g d) c.renew_path.ensures.room (now g d) c.args.self.now c.self.view_is clock
 
 pub returns-clause-heard : goal.returns-clause-heard
 returns-clause-heard g c = λ clock.
-    let n = state_of c.self.inside.tables c.self.inside.said in
-    let m = c.args.message.now in
-    let on = ap (λ (z : State). comes_in z.place m.session c.args.iface c.args.sender) c.self.view_is ∙ c.requires.inward in
-    let w = state_of c.renew_path.new.tables c.self.inside.said in
-    let k : SenderKey = (m.session, c.args.sender) in
-    let now = ap (λ (z : State). record z { said = c.self.inside.said }) c.renew_path.ensures.state in
-    let p = path_comes n c.self.inside.settled c.args.iface m c.args.sender c.args.tspec c.requires.sender on c.renew_path.ensures.room w c.self.inside.said now in
-    heard_is n clock c.args.iface m.session.group (Spelt (message.Path m)) _ heard.Taken (p.does clock)
-    ∙ ap (λ (z : State). heard_after z.place clock c.args.iface m.session.group (Spelt (message.Path m)) (facts_at clock z)) c.self.view_is
+    let d = (goal.at.returns-clause-heard g c).After-renew_path in
+    heard_again (n g d) c.self.inside.said c.self.inside.settled c.self.inside.told c.args.iface c.args.message.now c.args.sender c.args.tspec c.requires.sender (on g d) (by g d)
+    (w g d) c.renew_path.ensures.room (now g d) c.args.self.now c.self.view_is clock
 
 pub returns-clause-sent : goal.returns-clause-sent
 returns-clause-sent g c = λ clock.
-    let n = state_of c.self.inside.tables c.self.inside.said in
-    let m = c.args.message.now in
-    let on = ap (λ (z : State). comes_in z.place m.session c.args.iface c.args.sender) c.self.view_is ∙ c.requires.inward in
-    let w = state_of c.renew_path.new.tables c.self.inside.said in
-    let k : SenderKey = (m.session, c.args.sender) in
-    let now = ap (λ (z : State). record z { said = c.self.inside.said }) c.renew_path.ensures.state in
-    let p = path_comes n c.self.inside.settled c.args.iface m c.args.sender c.args.tspec c.requires.sender on c.renew_path.ensures.room w c.self.inside.said now in
-    let fact = fact_of c.args.iface m c.args.sender c.args.tspec in
-    let left = lifetime n.place m.period in
-    let by : (d : ℕ) → is_path_by (c.args.iface, m.hop.addr) (get (facts_of d n).paths k) ≡ true =
-    λ d. ap (λ (z : State). is_path_by (c.args.iface, m.hop.addr) (get (facts_of d z).paths k)) c.self.view_is ∙ c.requires.stands d in
-    let posted = g.O.Outbox.posted in
-    let place = sym p.ruled.change.place in
-    let news = renewal_told n w k fact left c.self.inside.said now by c.args.renewal.now (λ f is.
-    subst (λ (z : State). AreNews c.args.renewal.now (offer_by (own_of (has z.advertised k) (get z.senders k)) f.tspec f.adspec) (offer_by (own_of (has z.advertised k) (get z.senders k)) c.args.tspec m.adspec)) (sym c.self.view_is)
-    (c.requires.news f (sym (ap (λ (z : State). option_map (λ (e : PathFact × ℕ). e.0) (get z.paths k)) c.self.view_is) ∙ is))) clock in
-    plain_sent n c.args.self.now c.self.view_is (λ z. path_came c.args.iface m) refl heard.Taken clock k w p posted _ c.args.out.now
-    (c.tell_renewal.ensures news.0 news.1 news.2 ∙ (λ i. fold posted c.args.out.now (told_new (place i) k (news.3 i) (news.4 i)))
-    ∙ ap (fold posted c.args.out.now) (sym (sent_again n w k fact left c.self.inside.said now by p.ruled.change clock heard.Taken)))
+    let d = (goal.at.returns-clause-sent g c).After-renew_path in
+    let r = renewal_told (n g d) (w g d) (key g d) (fact_of c.args.iface c.args.message.now c.args.sender c.args.tspec) (lifetime (n g d).place c.args.message.now.period) c.self.inside.said (now g d)
+    (by g d) c.args.renewal.now (news g d) clock in
+    told_again (n g d) c.self.inside.said c.self.inside.settled c.self.inside.told c.args.iface c.args.message.now c.args.sender c.args.tspec c.requires.sender (on g d) (by g d)
+    (w g d) c.renew_path.ensures.room (now g d) c.args.self.now c.self.view_is clock g.O.Outbox.posted _ c.args.out.now
+    (c.tell_renewal.ensures r.0 r.1 r.2 ∙ (λ i. fold g.O.Outbox.posted c.args.out.now (told_new (ap (λ (z : State). z.place) (now g d) i) (key g d) (r.3 i) (r.4 i))))
 
 pub returns-clause-place : goal.returns-clause-place
 returns-clause-place g c =
-    let n = state_of c.self.inside.tables c.self.inside.said in
-    let m = c.args.message.now in
-    let on = ap (λ (z : State). comes_in z.place m.session c.args.iface c.args.sender) c.self.view_is ∙ c.requires.inward in
-    let w = state_of c.renew_path.new.tables c.self.inside.said in
-    let k : SenderKey = (m.session, c.args.sender) in
-    let now = ap (λ (z : State). record z { said = c.self.inside.said }) c.renew_path.ensures.state in
-    let p = path_comes n c.self.inside.settled c.args.iface m c.args.sender c.args.tspec c.requires.sender on c.renew_path.ensures.room w c.self.inside.said now in
-    sym p.ruled.change.place ∙ ap (λ (z : State). z.place) c.self.view_is
+    let d = (goal.at.returns-clause-place g c).After-renew_path in
+    place_again (n g d) c.self.inside.said c.self.inside.settled c.self.inside.told c.args.iface c.args.message.now c.args.sender c.args.tspec c.requires.sender (on g d) (by g d)
+    (w g d) c.renew_path.ensures.room (now g d) c.args.self.now c.self.view_is 0
 
 pub invariant_of-self-inside : goal.invariant_of-self-inside
 invariant_of-self-inside g c =
     let t = c.self.inside.tables in
     let said = c.self.inside.said in
-    let n = state_of t said in
-    let m = c.args.message.now in
-    let on = ap (λ (z : State). comes_in z.place m.session c.args.iface c.args.sender) c.self.view_is ∙ c.requires.inward in
-    let by : (d : ℕ) → is_path_by (c.args.iface, m.hop.addr) (get (facts_of d n).paths (m.session, c.args.sender)) ≡ true =
-    λ d. ap (λ (z : State). is_path_by (c.args.iface, m.hop.addr) (get (facts_of d z).paths (m.session, c.args.sender))) c.self.view_is ∙ c.requires.stands d in
-    let both = settled_again (state_of t empty) said c.self.inside.settled c.self.inside.told c.args.iface m c.args.sender c.args.tspec c.requires.sender on by
-    (state_of c.renew_path.new.tables said) true (sym c.renew_path.ensures.room) (ap (λ (z : State). record z { said = said }) c.renew_path.ensures.state) in
+    let both = kept_again (n g c) said c.self.inside.settled c.self.inside.told c.args.iface c.args.message.now c.args.sender c.args.tspec c.requires.sender (on g c) (by g c)
+    (w g c) c.renew_path.ensures.room (now g c) in
     let rest = paths_only t c.renew_path.new.tables c.renew_path.ensures.rest in
     (still_sound t c.renew_path.new.tables rest c.renew_path.ensures.pulled c.self.inside.sound, (both.0, (both.1, (still_of_place t c.renew_path.new.tables rest c.self.inside.place, tt))))
 
