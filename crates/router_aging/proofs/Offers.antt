@@ -26,7 +26,6 @@ use Rattle.rsvp_base.proofs.UnderLaws.{get-under}
 use Rattle.local_state.specs.Rows.{Announced}
 use Rattle.path_state.specs.Paths.{path_keys}
 use Rattle.path_state.specs.declared.fact.PathFact.{PathFact}
-use Rattle.path_sends.specs.Offering.{fact_offer}
 use Rattle.style_rules.specs.Toward.{or_else}
 use Rattle.router_rules.specs.Facts.{Facts, PathState, SenderKey, sender_keys}
 use Rattle.router_rules.specs.Known.{known}
@@ -48,20 +47,6 @@ offer_seen c n k = ap (λ (w : Option PathState). or_else (option_map (own_offer
         (option_map path_offer (then_do w (path_at c k))) ≡ or_else (option_map (own_offer (has n.advertised k)) (get n.senders k)) (option_map kept_offer w)
     by None = refl
     by (Some e) = refl
-
--- by the tables of local senders and of paths, as each answers
-module _ (own : Announced) (paths : Table path_keys (PathFact × ℕ)) (k : SenderKey) where
-  pub own_offered : (tspec : TokenBucket) (advertised : Bool) → Some tspec ≡ get own.tspecs k → advertised ≡ has own.advertised k → Some (own_offer advertised tspec) ≡ offer_by own paths k
-  own_offered tspec advertised e f = λ i. or_else {X = Offer} (option_map (own_offer (f i)) (e i)) (option_map kept_offer (get paths k))
-
-  pub path_offered : None ≡ get own.tspecs k → (w : Option PathFact) → w ≡ option_map (λ e. e.0) (get paths k) → option_map fact_offer w ≡ offer_by own paths k
-  path_offered none w e =
-      ap (option_map fact_offer) e ∙ by (get paths k)
-      ∙ ap (λ (v : Option TokenBucket). or_else {X = Offer} (option_map (own_offer (has own.advertised k)) v) (option_map kept_offer (get paths k))) none
-    where
-      by : (v : Option (PathFact × ℕ)) → option_map fact_offer (option_map (λ (e : PathFact × ℕ). e.0) v) ≡ option_map kept_offer v
-      by None = refl
-      by (Some x) = refl
 
 flat_among : {A B : Type 0} (g h : A → List B) (xs : List A) → ((x : A) → In x xs → g x ≡ h x) → flat_map g xs ≡ flat_map h xs
 flat_among g h [] same = refl

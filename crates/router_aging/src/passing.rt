@@ -60,7 +60,8 @@ pub fn age_all(
 /// died.
 pub fn forget_all(tables: &mut Tables, dead: &DeadPaths)
     requires sound { AreSound tables.old }
-    requires counted { (s : Session) → has tables.old.due s ≡ true → list_any (eq_by_cmp sessions.cmp s) (sessions_at dead.now) ≡ false → counts tables.old.senders.tspecs tables.old.paths.facts s ≡ true }
+    requires counted { (s : Session) → has tables.old.due s ≡ true → list_any (eq_by_cmp sessions.cmp s) (sessions_at dead.now) ≡ false
+        → counts tables.old.senders.tspecs tables.old.paths.facts s ≡ true }
     ensures state { (said : Said) → state_of tables.new said ≡ after_wait dead.now (state_of tables.old said) }
     ensures sound { AreSound tables.new }
     ensures ifaces { tables.new.book.ifaces ≡ tables.old.book.ifaces }

@@ -1,12 +1,12 @@
 //! What is told after a wait: the tears of the paths that died, and the Paths of the sessions that came due.
 ghost use Rattle.std.specs.Prelude.{◌≡◌, ℕ, true, fold, is_some, None};
 ghost use Rattle.std.specs.List.{flat_map};
-ghost use Rattle.std.specs.Option.{option_map};
 ghost use Rattle.rsvp_base.specs.Table.{get, has, keys};
 ghost use Rattle.router_rules.specs.Facts.{Facts, SenderKey};
 ghost use Rattle.path_sends.specs.RouterState.State.{State, facts_of};
-ghost use Rattle.laws_sends.specs.Told.{offered};
-ghost use Rattle.path_sends.specs.Offering.{as_offer};
+ghost use Rattle.laws_sends.specs.Told.{offered, paths_told};
+ghost use Rattle.path_sends.specs.Offering.{fact_offer};
+ghost use Rattle.router_rules.specs.Offers.{own_offer};
 ghost use Rattle.laws_sends.specs.Several.{gone_told, refreshed};
 ghost use Rattle.router_aging.specs.Passing.{dead_key};
 ghost use Rattle.router_aging.specs.Telling.{announced, gone_by, offer_by, refreshed_by, told_again};
@@ -15,46 +15,42 @@ use crate::dead::{DeadPath, DeadPaths};
 use crate::known::KnownSenders;
 use local_state::{Fired, LocalSenders};
 use path_sends::{Offered, tell_path_tears, tell_paths};
-use path_state::PathTable;
+use path_state::{PathFact, PathTable};
 use router_rules::Outbox;
 use router_state::Config;
-use rsvp_base::{Sender, Session};
+use rsvp_base::{Flow, Sender, Session};
 
-// What is offered of a sender. `None` exactly where it is not known.
-fn offered(
-    senders: &LocalSenders,
-    paths: &PathTable,
-    session: Session,
-    sender: Sender,
-) -> Option<Offered>
-    ensures { option_map as_offer result ≡ offer_by senders.now paths.now.facts (session, sender) }
-{
-    if let Some(own) = senders.find(session, sender) {
-        return Some(Offered::own(own.tspec, own.advertised));
-    }
-    match paths.find(session, sender) {
-        Some(fact) => Some(Offered::passed(fact.tspec, &fact.adspec)),
-        None => None,
-    }
-}
-
-// The Paths of a sender, if it is offered, as a refresh.
-fn tell_again<O: Outbox>(
+// The Paths of a local sender, as a refresh.
+fn tell_own<O: Outbox>(
     config: &Config,
     session: Session,
     sender: Sender,
-    offered: &Option<Offered>,
+    tspec: Flow,
+    advertised: bool,
     out: &mut O,
 )
-    ensures { out.new ≡ fold O.posted out.old (told_again config.now (session, sender) (option_map as_offer offered.now)) }
+    ensures { out.new ≡ fold O.posted out.old (paths_told config.now true (session, sender) (own_offer advertised tspec)) }
 {
-    if let Some(offered) = offered {
-        tell_paths(config, session, sender, offered, true, out);
-    }
+    let offered = Offered::own(tspec, advertised);
+    tell_paths(config, session, sender, &offered, true, out);
+}
+
+// The Paths of a sender by its path, as a refresh.
+fn tell_passed<O: Outbox>(
+    config: &Config,
+    session: Session,
+    sender: Sender,
+    fact: &PathFact,
+    out: &mut O,
+)
+    ensures { out.new ≡ fold O.posted out.old (paths_told config.now true (session, sender) (fact_offer fact.now)) }
+{
+    let offered = Offered::passed(fact.tspec, &fact.adspec);
+    tell_paths(config, session, sender, &offered, true, out);
 }
 
 // The Paths of a sender, if it is known, as a refresh.
-fn tell_one_again<O: Outbox>(
+fn tell_again<O: Outbox>(
     config: &Config,
     senders: &LocalSenders,
     paths: &PathTable,
@@ -64,8 +60,12 @@ fn tell_one_again<O: Outbox>(
 )
     ensures { out.new ≡ fold O.posted out.old (told_again config.now (session, sender) (offer_by senders.now paths.now.facts (session, sender))) }
 {
-    let now = offered(senders, paths, session, sender);
-    tell_again(config, session, sender, &now, out);
+    if let Some(own) = senders.find(session, sender) {
+        return tell_own(config, session, sender, own.tspec, own.advertised, out);
+    }
+    if let Some(fact) = paths.find(session, sender) {
+        tell_passed(config, session, sender, fact, out);
+    }
 }
 
 // All Paths of a session, by the tables.
@@ -81,7 +81,7 @@ fn tell_session<O: Outbox>(
     let known = KnownSenders::of(senders, paths, session);
     let list = known.as_slice();
     for i in 0..list.len() {
-        tell_one_again(config, senders, paths, session, list[i], out);
+        tell_again(config, senders, paths, session, list[i], out);
     }
 }
 
