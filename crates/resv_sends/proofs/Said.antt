@@ -130,3 +130,13 @@ nothing_asked Shared = refl
 pub nothing_torn : (c : ℕ) (n : State) (l : Lane) → [] ≡ torn_seen c n l empty
 unfolding torn_seen
 nothing_torn c n l = refl
+
+-- ---- where nothing goes there nothing is told
+pub nothing_told : (c : ℕ) (n : State) (s : Session) (st : StyleKind) (hop : NextHop) (asked : Option Addr) (due : Bool) (was : PartTable) → empty ≡ toward_at c n s st hop
+    → [] ≡ told_seen c n (lane_of s st hop) asked due was
+nothing_told c n s st hop asked due was goes = quiet (not (same_parts was empty)) due ∙ told_is c n s st hop asked due was empty goes (not (same_parts was empty)) refl
+  where
+    quiet : (new due : Bool) → [] ≡ told_parts c n (lane_of s st hop) asked new due (ask_of st empty)
+    quiet true due = asked_none c n s st hop (wish_seen c n (lane_of s st hop) asked) due (ask_of st empty) (nothing_asked st) ∙ parts_new c n s st hop asked due (ask_of st empty)
+    quiet false true = asked_none c n s st hop None true (ask_of st empty) (nothing_asked st) ∙ parts_due c n s st hop asked (ask_of st empty)
+    quiet false false = parts_old c n s st hop asked (ask_of st empty)

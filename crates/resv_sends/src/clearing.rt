@@ -1,7 +1,6 @@
 //! Lanes from which no path comes any more.
 ghost use Rattle.std.specs.Prelude.{◌≡◌};
-ghost use Rattle.rsvp_base.specs.Table.{empty, keys};
-ghost use Rattle.sent_state.specs.Lanes.{lane_at, told};
+ghost use Rattle.rsvp_base.specs.Table.{keys};
 ghost use Rattle.laws_sends.specs.Before.{lanes_by};
 ghost use Rattle.laws_sends.specs.Saying.{IsCleared};
 ghost use Rattle.router_state.specs.Whole.{state_of};
@@ -11,16 +10,6 @@ use path_state::Hops;
 use router_state::Tables;
 use rsvp_base::{Addr, Session, StyleKind};
 use sent_state::LaneTable;
-use style_rules::Parts;
-
-// Forgets what was said to a lane.
-fn forget_lane(said: &mut LaneTable, session: Session, style: StyleKind, hop: (u8, Addr))
-    ensures { said.new ≡ told said.old (lane_at (session, (style, hop))) empty }
-{
-    if said.find(session, style, hop).is_some() {
-        said.tell(session, style, hop, Parts::new());
-    }
-}
 
 // Forgets what was said to a lane, where no path comes from its hop: of a lane to which something may have been said.
 fn clear_said(
@@ -33,7 +22,7 @@ fn clear_said(
     ensures { said.new ≡ cleared_of tables.now said.old session (style, hop) }
 {
     if tables.paths.senders_via(session, hop.0, hop.1).is_empty() {
-        forget_lane(said, session, style, hop);
+        said.forget(session, style, hop);
     }
 }
 

@@ -10,7 +10,7 @@ ghost use Rattle.router_state.specs.Whole.{state_of};
 ghost use Rattle.resv_sends.specs.Rounds.{renewed_seen, told_parts};
 
 use crate::marks::own_wish;
-use crate::upward::{hop_to, names_via, toward};
+use crate::upward::{hop_to, is_idle, names_via, toward};
 use router_rules::Outbox;
 use router_state::Tables;
 use rsvp_base::{Addr, Session, StyleKind};
@@ -104,7 +104,8 @@ fn tell_changed<O: Outbox>(
     new: bool,
     out: &mut O,
 )
-    ensures { (c : ℕ) (said : Said) → out.new ≡ fold O.posted out.old (told_parts c (state_of tables.now said) (lane_at (lane.session, (lane.style, lane.hop))) occasion.asked new occasion.due (ask_of lane.style parts.now)) }
+    ensures { (c : ℕ) (said : Said)
+        → out.new ≡ fold O.posted out.old (told_parts c (state_of tables.now said) (lane_at (lane.session, (lane.style, lane.hop))) occasion.asked new occasion.due (ask_of lane.style parts.now)) }
 {
     if new {
         let wish = wish_for(tables, lane, occasion.asked);
@@ -126,7 +127,31 @@ pub(crate) fn tell_lane<O: Outbox>(
 )
     requires room { has said.old (lane_at (lane.session, (lane.style, lane.hop))) ≡ false → size said.old < 1536 }
     ensures sent { (c : ℕ) (any : Said)
-        → out.new ≡ fold O.posted out.old (told_seen c (state_of tables.now any) (lane_at (lane.session, (lane.style, lane.hop))) occasion.asked occasion.due (said_at said.old (lane_at (lane.session, (lane.style, lane.hop))))) }
+        → out.new ≡ fold O.posted out.old (told_seen c (state_of tables.now any) (lane_at (lane.session, (lane.style, lane.hop)))
+        occasion.asked occasion.due (said_at said.old (lane_at (lane.session, (lane.style, lane.hop))))) }
+    ensures said { (c : ℕ) (any : Said) → said.new ≡ told said.old (lane_at (lane.session, (lane.style, lane.hop))) (toward_at c (state_of tables.now any) lane.session lane.style lane.hop) }
+{
+    if is_idle(tables, lane.session, lane.style) {
+        said.forget(lane.session, lane.style, lane.hop);
+        return;
+    }
+    tell_merged(tables, said, lane, occasion, out);
+}
+
+// The same where something may go there. It stays out of line: a loop over lanes would clear the room of the parts at each of them,
+// and most often a session has one style.
+#[inline(never)]
+fn tell_merged<O: Outbox>(
+    tables: &Tables,
+    said: &mut LaneTable,
+    lane: Lane,
+    occasion: Occasion,
+    out: &mut O,
+)
+    requires room { has said.old (lane_at (lane.session, (lane.style, lane.hop))) ≡ false → size said.old < 1536 }
+    ensures sent { (c : ℕ) (any : Said)
+        → out.new ≡ fold O.posted out.old (told_seen c (state_of tables.now any) (lane_at (lane.session, (lane.style, lane.hop)))
+        occasion.asked occasion.due (said_at said.old (lane_at (lane.session, (lane.style, lane.hop))))) }
     ensures said { (c : ℕ) (any : Said) → said.new ≡ told said.old (lane_at (lane.session, (lane.style, lane.hop))) (toward_at c (state_of tables.now any) lane.session lane.style lane.hop) }
 {
     let now = toward(tables, lane.session, lane.style, lane.hop);
@@ -137,7 +162,9 @@ pub(crate) fn tell_lane<O: Outbox>(
 
 // The Resv of a lane, whole, of what was said there last, as that of a lane that is due (RFC 2209, 2: RESV REFRESH).
 pub(crate) fn refresh_lane<O: Outbox>(tables: &Tables, said: &LaneTable, lane: Lane, out: &mut O)
-    ensures { (c : ℕ) (any : Said) → out.new ≡ fold O.posted out.old (renewed_seen c (state_of tables.now any) (lane_at (lane.session, (lane.style, lane.hop))) (said_at said.now (lane_at (lane.session, (lane.style, lane.hop))))) }
+    ensures { (c : ℕ) (any : Said)
+        → out.new ≡ fold O.posted out.old (renewed_seen c (state_of tables.now any) (lane_at (lane.session, (lane.style, lane.hop)))
+        (said_at said.now (lane_at (lane.session, (lane.style, lane.hop))))) }
 {
     let Some(was) = said.find(lane.session, lane.style, lane.hop) else {
         return;

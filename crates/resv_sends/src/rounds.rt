@@ -80,7 +80,8 @@ fn tell_style<O: Outbox>(
 )
     requires near { (c : ℕ) → hops.now ≡ hops_in (facts_of c (state_of tables.now empty)) session }
     requires roomy { IsRoomy (state_of tables.now empty) said.old }
-    ensures sent { (c : ℕ) (any : Said) → out.new ≡ fold O.posted out.old (flat_map (told_by c (state_of tables.now any) occasion.asked occasion.due said.old session) (lanes_of style (keys hops.now))) }
+    ensures sent { (c : ℕ) (any : Said)
+        → out.new ≡ fold O.posted out.old (flat_map (told_by c (state_of tables.now any) occasion.asked occasion.due said.old session) (lanes_of style (keys hops.now))) }
     ensures told { IsTold (state_of tables.now said.old) session (lanes_of style (keys hops.now)) said.new }
     ensures roomy { IsRoomy (state_of tables.now empty) said.new }
 {

@@ -73,8 +73,8 @@ fn any_of_style(wants: &[LocalWant], style: StyleKind) -> bool
     wants.iter().any(|want| want.style == style)
 }
 
-// Whether nothing asks for data in a session and style: it has no want and no reservation of the style.
-fn is_idle(tables: &Tables, session: Session, style: StyleKind) -> bool
+/// Whether nothing asks for data in a session and style: it has no want and no reservation of the style.
+pub(crate) fn is_idle(tables: &Tables, session: Session, style: StyleKind) -> bool
     ensures { result ≡ true → (c : ℕ) (said : Said) (hop : NextHop) → empty ≡ toward_at c (state_of tables.now said) session style hop }
 {
     if any_of_style(tables.wants.of(session), style) {

@@ -17,10 +17,11 @@ use style_rules::Parts;
 pub fn ask_of(style: StyleKind, parts: &Parts) -> Option<Ask>
     ensures { result ≡ ask_of style parts.now }
 {
+    // Each style returns by itself, so that what is asked for is made where it is answered.
     match style {
-        StyleKind::Wild => wild_ask(parts),
-        StyleKind::Fixed => fixed_ask(parts),
-        StyleKind::Shared => shared_ask(parts),
+        StyleKind::Wild => return wild_ask(parts),
+        StyleKind::Fixed => return fixed_ask(parts),
+        StyleKind::Shared => return shared_ask(parts),
     }
 }
 
@@ -36,41 +37,42 @@ pub fn tear_of(style: StyleKind, names: Senders) -> Tear
 }
 
 // A wildcard filter with its SCOPE.
+#[inline(always)]
 fn wild_ask(parts: &Parts) -> Option<Ask>
     ensures { result ≡ ask_of Wild parts.now }
 {
-    match parts.get(Unit::One) {
-        Some(part) => Some(Ask::Wild {
-            scope: Some(part.senders.copy()),
-            flow: part.flow,
-        }),
-        None => None,
-    }
+    let Some(part) = parts.get(Unit::One) else {
+        return None;
+    };
+    Some(Ask::Wild {
+        scope: Some(part.senders.copy()),
+        flow: part.flow,
+    })
 }
 
 // The shared part.
+#[inline(always)]
 fn shared_ask(parts: &Parts) -> Option<Ask>
     ensures { result ≡ ask_of Shared parts.now }
 {
-    match parts.get(Unit::One) {
-        Some(part) => Some(Ask::Shared(part.copy())),
-        None => None,
-    }
+    let Some(part) = parts.get(Unit::One) else {
+        return None;
+    };
+    Some(Ask::Shared(part.copy()))
 }
 
 // Each sender with the flow of its unit. The list is made here, and grows in place.
+#[inline(always)]
 fn fixed_ask(parts: &Parts) -> Option<Ask>
     ensures { result ≡ ask_of Fixed parts.now }
 {
     let mut list = None;
     put_flows(&mut list, parts);
-    match list {
-        Some(list) => {
-            prove!(1 <= list.len());
-            Some(Ask::Fixed(list))
-        }
-        None => None,
-    }
+    let Some(list) = list else {
+        return None;
+    };
+    prove!(1 <= list.len());
+    Some(Ask::Fixed(list))
 }
 
 // Puts the flows by sender.

@@ -2,7 +2,7 @@
 ghost use Rattle.std.specs.Prelude.{◌≡◌, ◌≤◌, ◌<◌, ◌↔◌, [], false, IsTrue, IfOk, length};
 ghost use Rattle.std.specs.Option.{option_copied};
 ghost use Rattle.rsvp_base.specs.Rows.{AreRows};
-ghost use Rattle.rsvp_base.specs.Table.{empty, get, has, size};
+ghost use Rattle.rsvp_base.specs.Table.{empty, get, has, size, without};
 ghost use Rattle.sent_state.specs.Lanes.{lane_at, lane_places, sent_row, said_at, told};
 
 use crate::lane::Sent;
@@ -98,8 +98,7 @@ impl LaneTable {
         ensures { self.new ≡ told self.old (lane_at (session, (style, hop))) parts }
     {
         if parts.is_empty() {
-            self.table.remove(session, (style, hop));
-            return;
+            return self.forget(session, style, hop);
         }
         let sent = Sent {
             session,
@@ -110,6 +109,13 @@ impl LaneTable {
         let Ok(()) = self.table.put(sent, 1) else {
             unreachable!();
         };
+    }
+
+    /// Forgets what went to a lane, if something did.
+    pub fn forget(&mut self, session: Session, style: StyleKind, hop: (u8, Addr))
+        ensures { self.new ≡ without self.old (lane_at (session, (style, hop))) }
+    {
+        self.table.remove(session, (style, hop));
     }
 
     /// Forgets all.

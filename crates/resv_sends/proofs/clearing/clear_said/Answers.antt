@@ -8,7 +8,7 @@ use Rattle.resv_sends.proofs.clearing.clear_said.Goals as goal
 
 pub returns-then-is_empty : goal.returns-then-is_empty
 returns-then-is_empty c =
-    c.forget_lane.ensures
+    c.forget.ensures
     ∙ sym (ap (λ b. cond b (told c.args.said.now (lane_at (c.args.session, (c.args.style, c.args.hop))) empty) c.args.said.now)
     (ap is_none (sym c.senders_via.ensures) ∙ is_nobody c.senders_via.result (c.is_empty.ensures.0 c.if-is_empty.true)))
 
