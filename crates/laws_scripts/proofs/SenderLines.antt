@@ -27,7 +27,7 @@ use Rattle.laws_network.specs.Runs.{AreFitSenders, is_sender_at}
 use Rattle.laws_network.proofs.Known.{of_some}
 use Rattle.router_rules.specs.Inputs.{QuitAll}
 use Rattle.script_grammar.specs.Adds.{Adds, is_sender, is_want_at, net_rerouted, sends, wants_value, with_local, with_sender, with_wants, without_sender, without_wants}
-use Rattle.script_grammar.specs.declared.line.DropLine.{DropLine}
+use Rattle.script_grammar.specs.declared.line.SenderLine.{SenderLine}
 use Rattle.script_grammar.specs.declared.line.ScriptLine.{ScriptLine}
 use Rattle.script_grammar.specs.declared.line.ScriptLine.TheVariants as line
 use Rattle.script_grammar.specs.declared.line.QuitLine.{QuitLine}
@@ -152,7 +152,7 @@ module _ (d : Draft) (h : Sending d) where
           few_sessions = rules.within_limits.session;
         })
 
-  module _ (l : DropLine) (rules : KeepsAll (Keeps d (line.Drop l))) where
+  module _ (l : SenderLine) (rules : KeepsAll (Keeps d (line.Drop l))) where
     abbrev m : ℕ
     m = node_number d l.node
 
@@ -214,7 +214,7 @@ module _ (d : Draft) (h : Sending d) where
         })
 
   -- a sender that is advertised sends, so its session was named
-  pub advertised : (l : DropLine) → KeepsAll (Keeps d (line.Advert l)) → Sending (with_local d l.node (session_value l.session) (advert_value l) d.locals)
+  pub advertised : (l : SenderLine) → KeepsAll (Keeps d (line.Advert l)) → Sending (with_local d l.node (session_value l.session) (advert_value l) d.locals)
   advertised l rules =
       let s : Session = session_value l.session in
       let one = in_any (is_sender_at (node_number d l.node) s (sender_value l.sender)) d.locals.senders rules.known.sends in

@@ -1,5 +1,7 @@
 //! Lines are checked as the player of a script asks.
-ghost use Rattle.std.specs.Prelude.{◌≡◌, ◌↔◌, ◌≤◌, IfOk, IsTrue, Some, length, map};
+ghost use Rattle.std.specs.Prelude.{◌≡◌, ◌↔◌, ◌≤◌, ◌==◌, IfOk, IsTrue, Some, length, map};
+ghost use Rattle.std.specs.List.{list_all};
+ghost use Rattle.std.specs.Str.{byte};
 ghost use Rattle.script_grammar.specs.Draft.{end_number, node_number};
 ghost use Rattle.script_grammar.specs.LineKinds.{script_line_of};
 ghost use Rattle.script_grammar.specs.Values.{hop_value};
@@ -73,7 +75,7 @@ impl LinesBefore for Checker {
 
 impl Checks for Checker {
     fn feed(&mut self, line: &[u8]) -> Result<Option<Event>, Stop> {
-        // Most lines of a long script that say nothing are empty: no words are looked for in them.
+        // No words are looked for in a line that says nothing.
         if is_skipped(line) {
             return Ok(None);
         }
@@ -95,14 +97,22 @@ impl Checks for Checker {
     }
 }
 
-// Whether a line is empty or a comment; one of spaces alone says nothing either.
+// Whether a line says nothing: it is empty, a comment, or of spaces alone.
+#[tactic(auto, using(crate::proofs::FedLines::blank_said, crate::proofs::FedLines::empty_said))]
 fn is_skipped(line: &[u8]) -> bool
     ensures { IsTrue result → script_line_of line.now ≡ Some said.Skipped }
 {
     match line.first() {
         None => true,
-        Some(first) => *first == b'#',
+        Some(first) => *first == b'#' || is_blank(line),
     }
+}
+
+// Whether a line is of spaces alone.
+fn is_blank(line: &[u8]) -> bool
+    ensures { result ≡ list_all (λ c. c == byte " ") line.now }
+{
+    line.iter().all(|c| *c == b' ')
 }
 
 // Takes a line.

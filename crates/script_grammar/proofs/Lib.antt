@@ -7,3 +7,4 @@ pub mod Pairs
 pub mod Scripts
 mod Formed
 pub mod FormLaws
+pub mod SaidAs

@@ -34,7 +34,7 @@ use Rattle.script_grammar.specs.declared.line.EndLine.{EndLine}
 use Rattle.script_grammar.specs.declared.line.HopLine.{HopLine}
 use Rattle.script_grammar.specs.declared.line.LatencyLine.{LatencyLine}
 use Rattle.script_grammar.specs.declared.line.SendLine.{SendLine}
-use Rattle.script_grammar.specs.declared.line.DropLine.{DropLine}
+use Rattle.script_grammar.specs.declared.line.SenderLine.{SenderLine}
 use Rattle.script_grammar.specs.declared.line.WantLine.{WantLine}
 use Rattle.script_grammar.specs.declared.line.QuitLine.{QuitLine}
 use Rattle.script_grammar.specs.declared.line.InjectLine.{InjectLine}
@@ -114,11 +114,11 @@ abbrev pub with_send : Draft → SendLine → Draft
 with_send d l =
     with_local d l.node (session_value l.session) (send_value l) (with_sender d.locals (node_number d l.node) (session_value l.session) (sender_value l.sender))
 
-abbrev pub with_drop : Draft → DropLine → Draft
+abbrev pub with_drop : Draft → SenderLine → Draft
 with_drop d l = with_local d l.node (session_value l.session) (drop_value l) (without_sender d.locals (session_value l.session) (sender_value l.sender))
 
 -- who sends is as it was
-abbrev pub with_advert : Draft → DropLine → Draft
+abbrev pub with_advert : Draft → SenderLine → Draft
 with_advert d l = with_local d l.node (session_value l.session) (advert_value l) d.locals
 
 abbrev pub with_want_line : Draft → WantLine → Draft

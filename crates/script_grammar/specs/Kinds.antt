@@ -4,7 +4,8 @@ use Rattle.std.specs.Str.{bytes_eq}
 use Rattle.script_grammar.specs.declared.field.Field.{Field}
 use Rattle.script_grammar.specs.declared.field.Field.TheVariants as field
 use Rattle.script_grammar.specs.declared.kind.Kind.{Kind}
-use Rattle.script_grammar.specs.declared.kind.Kind.TheVariants.{Period, Seed, Node, End, Latency, Link, Hop, StalePath, StaleResv, WildResv, Blockade, HopBlockade, SenderBlockade, Send, Drop, Advert, Want}
+use Rattle.script_grammar.specs.declared.kind.Kind.TheVariants.{Period, Seed, Node, End, Latency, Link, Hop, StalePath, StaleResv, WildResv, Blockade, HopBlockade}
+use Rattle.script_grammar.specs.declared.kind.Kind.TheVariants.{SenderBlockade, Send, Drop, Advert, Want}
 use Rattle.script_grammar.specs.declared.kind.Kind.TheVariants.{WildWant, Quit, Clear, Wait, Pass, Rounds, Deliver, Lose, Copy, Inject, Trace, Report, Flags, Adverts, Reroute}
 
 -- ---- the kind of a line

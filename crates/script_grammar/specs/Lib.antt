@@ -1,4 +1,5 @@
 pub mod LineKinds
+pub mod SaidAs
 pub mod Draft
 pub mod Values
 pub mod Adds

@@ -16,7 +16,8 @@ use Rattle.script_words.specs.Sessions.{session_of, sender_of, senders_of}
 use Rattle.script_words.specs.Styles.{style_of}
 use Rattle.script_words.specs.Flows.{flow_of}
 use Rattle.script_grammar.specs.declared.line.ScriptLine.{ScriptLine}
-use Rattle.script_grammar.specs.declared.line.ScriptLine.TheVariants.{Skipped, Period, Seed, Node, End, Latency, Link, Hop, StalePath, StaleResv, StaleHopWall, StaleSenderWall, Send, Drop, Advert, Want}
+use Rattle.script_grammar.specs.declared.line.ScriptLine.TheVariants.{Skipped, Period, Seed, Node, End, Latency, Link, Hop, StalePath, StaleResv, StaleHopWall, StaleSenderWall}
+use Rattle.script_grammar.specs.declared.line.ScriptLine.TheVariants.{Send, Drop, Advert, Want}
 use Rattle.script_grammar.specs.declared.line.ScriptLine.TheVariants.{Quit, Wait, Pass, Deliver, Lose, Copy, Clear, Rounds, Trace, Report, ReportEnd, Flags, Adverts, Inject, Reroute}
 use Rattle.script_grammar.specs.declared.line.HopEnds.{HopEnds}
 

@@ -1,7 +1,8 @@
 -- Which words of a line are names of what an earlier line has to declare.
 use Rattle.std.specs.Prelude.{ℕ, List, [], ◌∷◌, Option, None, Some, slice_get, unwrap_or}
 use Rattle.script_grammar.specs.declared.kind.Kind.{Kind}
-use Rattle.script_grammar.specs.declared.kind.Kind.TheVariants.{End, Latency, Link, Hop, StalePath, StaleResv, WildResv, HopBlockade, SenderBlockade, Send, Drop, Advert, Want, WildWant, Quit, Clear, Inject}
+use Rattle.script_grammar.specs.declared.kind.Kind.TheVariants.{End, Latency, Link, Hop, StalePath, StaleResv, WildResv, HopBlockade}
+use Rattle.script_grammar.specs.declared.kind.Kind.TheVariants.{SenderBlockade, Send, Drop, Advert, Want, WildWant, Quit, Clear, Inject}
 use Rattle.script_grammar.specs.declared.kind.Kind.TheVariants.{Report, Reroute}
 use Rattle.script_grammar.specs.declared.named.Named.{Named}
 use Rattle.script_grammar.specs.declared.named.Named.TheVariants as named

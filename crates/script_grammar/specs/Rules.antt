@@ -44,7 +44,7 @@ use Rattle.script_grammar.specs.declared.line.StaleResvLine.{StaleResvLine}
 use Rattle.script_grammar.specs.declared.line.StaleHopWallLine.{StaleHopWallLine}
 use Rattle.script_grammar.specs.declared.line.StaleSenderWallLine.{StaleSenderWallLine}
 use Rattle.script_grammar.specs.declared.line.SendLine.{SendLine}
-use Rattle.script_grammar.specs.declared.line.DropLine.{DropLine}
+use Rattle.script_grammar.specs.declared.line.SenderLine.{SenderLine}
 use Rattle.script_grammar.specs.declared.line.WantLine.{WantLine}
 use Rattle.script_grammar.specs.declared.line.QuitLine.{QuitLine}
 use Rattle.script_grammar.specs.declared.line.InjectLine.{InjectLine}
@@ -201,7 +201,7 @@ abbrev pub is_sender_at : ℕ → Session → Sender → LocalSender → Bool
 is_sender_at n s x l = (l.node == n) && is_sender s x l
 
 -- the node was declared, and sends as this sender
-pub record IsSending (d : Draft) (l : DropLine) : Type 0 where
+pub record IsSending (d : Draft) (l : SenderLine) : Type 0 where
   pub node : IsNode d l.node
   pub sends : list_any (is_sender_at (node_number d l.node) (session_value l.session) (sender_value l.sender)) d.locals.senders ≡ true
 
@@ -346,13 +346,13 @@ SendKeeps d l Known = CanSend d l
 SendKeeps d l WithinLimits = HasRoomForSender d l
 SendKeeps d l _ = Unit {0}
 
-abbrev pub DropKeeps : Draft → DropLine → Rule → Type 0
+abbrev pub DropKeeps : Draft → SenderLine → Rule → Type 0
 DropKeeps d l InRange = IsDropInRange l
 DropKeeps d l Known = IsSending d l
 DropKeeps d l _ = Unit {0}
 
 -- a sender is advertised where it could be dropped
-abbrev pub AdvertKeeps : Draft → DropLine → Rule → Type 0
+abbrev pub AdvertKeeps : Draft → SenderLine → Rule → Type 0
 AdvertKeeps d l rule = DropKeeps d l rule
 
 abbrev pub WantKeeps : Draft → WantLine → Rule → Type 0

@@ -28,7 +28,7 @@ use Rattle.script_grammar.specs.declared.line.StaleResvLine.{StaleResvLine}
 use Rattle.script_grammar.specs.declared.line.StaleHopWallLine.{StaleHopWallLine}
 use Rattle.script_grammar.specs.declared.line.StaleSenderWallLine.{StaleSenderWallLine}
 use Rattle.script_grammar.specs.declared.line.SendLine.{SendLine}
-use Rattle.script_grammar.specs.declared.line.DropLine.{DropLine}
+use Rattle.script_grammar.specs.declared.line.SenderLine.{SenderLine}
 use Rattle.script_grammar.specs.declared.line.WantLine.{WantLine}
 use Rattle.script_grammar.specs.declared.line.InjectLine.{InjectLine}
 use Rattle.script_grammar.specs.declared.line.RerouteLine.{RerouteLine}
@@ -109,7 +109,7 @@ pub record IsSendInRange (l : SendLine) : Type 0 where
   pub sender : IsSender l.sender
   pub flow : IsFlow l.flow
 
-pub record IsDropInRange (l : DropLine) : Type 0 where
+pub record IsDropInRange (l : SenderLine) : Type 0 where
   pub session : IsSession l.session
   pub sender : IsSender l.sender
 
@@ -167,10 +167,10 @@ stale_sender_wall_value l =
 abbrev pub send_value : SendLine → Local
 send_value l = SendAs (session_value l.session) (sender_value l.sender) (flow_value l.flow)
 
-abbrev pub drop_value : DropLine → Local
+abbrev pub drop_value : SenderLine → Local
 drop_value l = DropAs (session_value l.session) (sender_value l.sender)
 
-abbrev pub advert_value : DropLine → Local
+abbrev pub advert_value : SenderLine → Local
 advert_value l = AdvertAs (session_value l.session) (sender_value l.sender)
 
 abbrev pub want_value : WantLine → Local

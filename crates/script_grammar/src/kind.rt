@@ -230,9 +230,9 @@ fn refined(kind: Kind, third: &[u8]) -> Kind
     }
 }
 
-// The kind by the first word.
+/// The kind by the first word.
 #[tactic(auto, unfolding(crate::specs::Kinds::declared_kind))]
-fn declared_kind(first: &[u8]) -> Option<Kind>
+pub(crate) fn declared_kind(first: &[u8]) -> Option<Kind>
     ensures { result ≡ declared_kind first.now }
 {
     if *first == *b"period".as_slice() {

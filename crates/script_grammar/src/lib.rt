@@ -24,8 +24,8 @@ pub use field::Field;
 pub use first_words::{first_out, unformed};
 pub use kind::Kind;
 pub use line::{
-    DropLine, EndLine, HopEnds, HopLine, InjectLine, LatencyLine, QuitLine, RerouteLine,
-    ScriptLine, SendLine, StaleHopWallLine, StalePathLine, StaleResvLine, StaleSenderWallLine,
+    EndLine, HopEnds, HopLine, InjectLine, LatencyLine, QuitLine, RerouteLine, ScriptLine,
+    SendLine, SenderLine, StaleHopWallLine, StalePathLine, StaleResvLine, StaleSenderWallLine,
     WantLine,
 };
 pub use line_kinds::read_line;

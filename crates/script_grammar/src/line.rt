@@ -34,9 +34,9 @@ pub enum ScriptLine {
     /// `send NODE SESSION SENDER FLOW`
     Send(SendLine),
     /// `drop NODE SESSION SENDER`
-    Drop(DropLine),
+    Drop(SenderLine),
     /// `advert NODE SESSION SENDER`
-    Advert(DropLine),
+    Advert(SenderLine),
     /// `want NODE SESSION STYLE SENDERS FLOW [confirm]`
     Want(WantLine),
     /// `quit NODE SESSION`
@@ -177,7 +177,7 @@ pub struct SendLine {
 
 /// A sender that ends, or of whose path its node tells what it offers.
 #[derive(Drop)]
-pub struct DropLine {
+pub struct SenderLine {
     pub node: EndName,
     pub session: SessionWord,
     pub sender: SenderWord,

@@ -1,15 +1,17 @@
 //! What the words of a line say.
-ghost use Rattle.std.specs.Prelude.{◌≡◌, Err, map};
+ghost use Rattle.std.specs.Prelude.{◌≡◌, ◌∷◌, Err, IsTrue, map};
 ghost use Rattle.script_words.specs.Unread.{Reads};
 ghost use Rattle.script_words.specs.declared.unread.Unread.TheVariants.{NoMemory as OutOfMemory};
 ghost use Rattle.script_grammar.specs.Reading.{HasList, IsOfList, TakesToRead};
-ghost use Rattle.script_grammar.specs.LineKinds.{script_line_of, said_at_node, said_by, said_in_flight, said_left_over, said_other};
+ghost use Rattle.script_grammar.specs.LineKinds.{script_line_of, said_by};
+ghost use Rattle.script_grammar.specs.SaidAs.{has_list, said_as};
 
 mod declared;
 mod happens;
 mod left_over;
 mod lists;
 
+use crate::kind::{Kind, declared_kind};
 use crate::line::ScriptLine;
 use crate::word_list::few_words;
 use arrayvec::ArrayVec;
@@ -59,121 +61,57 @@ fn said_by(alloc: Global, words: &[&[u8]]) -> Result<ScriptLine, Unread>
     let [first, behind @ ..] = words else {
         return Ok(ScriptLine::Skipped);
     };
-    if *first == b"period".as_slice() {
-        return period_line(behind).ok_or(Unread::Word);
-    }
-    if *first == b"seed".as_slice() {
-        return seed_line(behind).ok_or(Unread::Word);
-    }
-    if *first == b"node".as_slice() {
-        return node_line(behind).ok_or(Unread::Word);
-    }
-    if *first == b"end".as_slice() {
-        return end_line(behind).ok_or(Unread::Word);
-    }
-    if *first == b"latency".as_slice() {
-        return latency_line(behind).ok_or(Unread::Word);
-    }
-    if *first == b"link".as_slice() {
-        return link_line(alloc, behind);
-    }
-    if *first == b"hop".as_slice() {
-        return hop_line(behind).ok_or(Unread::Word);
-    }
-    said_left_over(alloc, first, behind)
+    said_of(alloc, first, behind)
 }
 
-#[tactic(auto, unfolding(crate::specs::LineKinds::said_left_over))]
-fn said_left_over(alloc: Global, first: &[u8], behind: &[&[u8]]) -> Result<ScriptLine, Unread>
-    ensures said { Reads result (said_left_over first.now (map (λ w. w.now) behind.now)) }
+// What these words say behind this first one.
+#[inline(always)]
+#[tactic(auto, using(crate::proofs::SaidAs::reads_of_kind, crate::proofs::SaidAs::of_no_kind, crate::proofs::SaidAs::list_of_first))]
+fn said_of(alloc: Global, first: &[u8], behind: &[&[u8]]) -> Result<ScriptLine, Unread>
+    ensures said { Reads result (said_by (first.now ∷ map (λ w. w.now) behind.now)) }
     ensures asked { result ≡ Err OutOfMemory → IsOfList first.now }
 {
-    if first == b"stale-path".as_slice() {
-        return stale_path_line(behind).ok_or(Unread::Word);
-    }
-    if first == b"stale-resv".as_slice() {
-        return stale_resv_line(alloc, behind);
-    }
-    if first == b"stale-blockade".as_slice() {
-        return stale_blockade_line(behind).ok_or(Unread::Word);
-    }
-    said_at_node(alloc, first, behind)
+    let Some(kind) = declared_kind(first) else {
+        return Err(Unread::Word);
+    };
+    said_as(alloc, kind, behind)
 }
 
-#[tactic(auto, unfolding(crate::specs::LineKinds::said_at_node))]
-fn said_at_node(alloc: Global, first: &[u8], behind: &[&[u8]]) -> Result<ScriptLine, Unread>
-    ensures said { Reads result (said_at_node first.now (map (λ w. w.now) behind.now)) }
-    ensures asked { result ≡ Err OutOfMemory → IsOfList first.now }
+// What the words behind the first one say in a line of a kind. All kinds stand in one function, since each function that hands a
+// line on clears a room for it.
+fn said_as(alloc: Global, kind: Kind, behind: &[&[u8]]) -> Result<ScriptLine, Unread>
+    ensures said { Reads result (said_as kind (map (λ w. w.now) behind.now)) }
+    ensures asked { result ≡ Err OutOfMemory → IsTrue (has_list kind) }
 {
-    if first == b"send".as_slice() {
-        return send_line(behind).ok_or(Unread::Word);
-    }
-    if first == b"drop".as_slice() {
-        return drop_line(behind).ok_or(Unread::Word);
-    }
-    if first == b"advert".as_slice() {
-        return advert_line(behind).ok_or(Unread::Word);
-    }
-    if first == b"want".as_slice() {
-        return want_line(alloc, behind);
-    }
-    if first == b"quit".as_slice() {
-        return quit_line(behind).ok_or(Unread::Word);
-    }
-    if first == b"clear".as_slice() {
-        return clear_line(behind).ok_or(Unread::Word);
-    }
-    said_in_flight(alloc, first, behind)
-}
-
-#[tactic(auto, unfolding(crate::specs::LineKinds::said_in_flight))]
-fn said_in_flight(alloc: Global, first: &[u8], behind: &[&[u8]]) -> Result<ScriptLine, Unread>
-    ensures said { Reads result (said_in_flight first.now (map (λ w. w.now) behind.now)) }
-    ensures asked { result ≡ Err OutOfMemory → IsOfList first.now }
-{
-    if first == b"wait".as_slice() {
-        return wait_line(behind).ok_or(Unread::Word);
-    }
-    if first == b"pass".as_slice() {
-        return pass_line(behind).ok_or(Unread::Word);
-    }
-    if first == b"rounds".as_slice() {
-        return rounds_line(behind).ok_or(Unread::Word);
-    }
-    if first == b"deliver".as_slice() {
-        return deliver_line(behind).ok_or(Unread::Word);
-    }
-    if first == b"lose".as_slice() {
-        return lose_line(behind).ok_or(Unread::Word);
-    }
-    if first == b"copy".as_slice() {
-        return copy_line(behind).ok_or(Unread::Word);
-    }
-    if first == b"inject".as_slice() {
-        return inject_line(alloc, behind);
-    }
-    said_other(alloc, first, behind)
-}
-
-#[tactic(auto, unfolding(crate::specs::LineKinds::said_other))]
-fn said_other(alloc: Global, first: &[u8], behind: &[&[u8]]) -> Result<ScriptLine, Unread>
-    ensures said { Reads result (said_other first.now (map (λ w. w.now) behind.now)) }
-    ensures asked { result ≡ Err OutOfMemory → IsOfList first.now }
-{
-    if first == b"trace".as_slice() {
-        return trace_line(behind).ok_or(Unread::Word);
-    }
-    if first == b"report".as_slice() {
-        return report_line(behind).ok_or(Unread::Word);
-    }
-    if first == b"flags".as_slice() {
-        return flags_line(behind).ok_or(Unread::Word);
-    }
-    if first == b"adverts".as_slice() {
-        return adverts_line(behind).ok_or(Unread::Word);
-    }
-    if first == b"reroute".as_slice() {
-        return reroute_line(alloc, behind);
-    }
-    Err(Unread::Word)
+    let line = match kind {
+        Kind::Wait => wait_line(behind),
+        Kind::Pass => pass_line(behind),
+        Kind::Rounds => rounds_line(behind),
+        Kind::Deliver => deliver_line(behind),
+        Kind::Lose => lose_line(behind),
+        Kind::Copy => copy_line(behind),
+        Kind::Period => period_line(behind),
+        Kind::Seed => seed_line(behind),
+        Kind::Node => node_line(behind),
+        Kind::End => end_line(behind),
+        Kind::Latency => latency_line(behind),
+        Kind::Hop => hop_line(behind),
+        Kind::StalePath => stale_path_line(behind),
+        Kind::Blockade | Kind::HopBlockade | Kind::SenderBlockade => stale_blockade_line(behind),
+        Kind::Send => send_line(behind),
+        Kind::Drop => drop_line(behind),
+        Kind::Advert => advert_line(behind),
+        Kind::Quit => quit_line(behind),
+        Kind::Clear => clear_line(behind),
+        Kind::Trace => trace_line(behind),
+        Kind::Report => report_line(behind),
+        Kind::Flags => flags_line(behind),
+        Kind::Adverts => adverts_line(behind),
+        Kind::Link => return link_line(alloc, behind),
+        Kind::StaleResv | Kind::WildResv => return stale_resv_line(alloc, behind),
+        Kind::Want | Kind::WildWant => return want_line(alloc, behind),
+        Kind::Inject => return inject_line(alloc, behind),
+        Kind::Reroute => return reroute_line(alloc, behind),
+    };
+    line.ok_or(Unread::Word)
 }

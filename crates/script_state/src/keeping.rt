@@ -75,6 +75,7 @@ pub fn keep_adverts(state: &mut ScriptState) -> Event
 }
 
 // What the bytes of an event spell, or why they spell nothing, if it has any.
+#[inline(always)]
 fn read_of(event: &Event) -> Option<Result<Message, MsgErr>>
     ensures { IsRead event.now (arrival_of result) }
 {

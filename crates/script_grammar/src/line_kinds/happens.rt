@@ -1,12 +1,13 @@
 //! Lines of part 3: what happens.
 ghost use Rattle.std.specs.Prelude.{◌≡◌, map};
 ghost use Rattle.script_words.specs.Unread.{Reads, ReadsAs};
-ghost use Rattle.script_grammar.specs.LineKinds.{advert_line, adverts_line, clear_line, drop_line, flags_line, inject_line, lone_number, numbered, pass_line, quit_line, report_line, reroute_line, send_line};
+ghost use Rattle.script_grammar.specs.LineKinds.{advert_line, adverts_line, clear_line, drop_line, flags_line, inject_line, lone_number, numbered};
+ghost use Rattle.script_grammar.specs.LineKinds.{pass_line, quit_line, report_line, reroute_line, send_line};
 ghost use Rattle.script_grammar.specs.LineKinds.{trace_line, want_line, want_of};
 ghost use Rattle.script_grammar.specs.declared.line.ScriptLine.TheVariants as kind;
 
 use super::lists::{bytes, pairs, want_senders};
-use crate::line::{DropLine, InjectLine, QuitLine, RerouteLine, ScriptLine, SendLine, WantLine};
+use crate::line::{InjectLine, QuitLine, RerouteLine, ScriptLine, SendLine, SenderLine, WantLine};
 use crate::list::Listed;
 use rsvp_base::EndName;
 use script_words::{DottedQuad, FlowWord, SenderWord, SessionWord, Unread, number, style};
@@ -32,7 +33,7 @@ pub fn advert_line(words: &[&[u8]]) -> Option<ScriptLine>
     ensures { result ≡ advert_line (map (λ w. w.now) words.now) }
 {
     match words {
-        [node, session, sender] => Some(ScriptLine::Advert(DropLine {
+        [node, session, sender] => Some(ScriptLine::Advert(SenderLine {
             node: EndName::of(node)?,
             session: SessionWord::of(session)?,
             sender: SenderWord::of(sender)?,
@@ -46,7 +47,7 @@ pub fn drop_line(words: &[&[u8]]) -> Option<ScriptLine>
     ensures { result ≡ drop_line (map (λ w. w.now) words.now) }
 {
     match words {
-        [node, session, sender] => Some(ScriptLine::Drop(DropLine {
+        [node, session, sender] => Some(ScriptLine::Drop(SenderLine {
             node: EndName::of(node)?,
             session: SessionWord::of(session)?,
             sender: SenderWord::of(sender)?,
