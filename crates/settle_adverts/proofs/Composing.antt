@@ -12,24 +12,24 @@ use Rattle.tree_model.specs.declared.hops.End.{End}
 use Rattle.tree_model.specs.declared.hops.LinkHop.{LinkHop}
 use Rattle.tree_model.specs.Networks.{Net}
 use Rattle.network_model.specs.Worlds.{ifaces_at, with_iface}
-use Rattle.settle_adverts.specs.Told.{told_by, told_over}
+use Rattle.settle_adverts.specs.Adverts.{composed_of, advert_over}
 
 -- ---- one interface more
 composed_more : (a : Adspec) (ons : List Iface) (on : Iface) → composed a (ons ++ on ∷ []) ≡ pass_on (composed a ons) on
 composed_more a [] on = refl
 composed_more a (x ∷ ons) on = composed_more (pass_on a x) ons on
 
-pub begins : (on : Iface) → advert_by (Some on) Begins ≡ told_by (on ∷ [])
+pub begins : (on : Iface) → advert_by (Some on) Begins ≡ composed_of (on ∷ [])
 begins on = ap Some (an_advertisement_is_composed on [])
 
-passed : (first : Iface) (rest : List Iface) (on : Iface) → advert_by (Some on) (advert_of (told_by (first ∷ rest))) ≡ told_by (first ∷ (rest ++ on ∷ []))
+passed : (first : Iface) (rest : List Iface) (on : Iface) → advert_by (Some on) (advert_of (composed_of (first ∷ rest))) ≡ composed_of (first ∷ (rest ++ on ∷ []))
 passed first rest on =
     ap (λ (a : Adspec). Some (pass_on a on)) (sym (an_advertisement_is_composed first rest))
     ∙ ap Some (sym (composed_more (start first) rest on))
     ∙ ap Some (an_advertisement_is_composed first (rest ++ on ∷ []))
 
 -- behind one interface at least
-pub passes : (ons : List Iface) (last on : Iface) → advert_by (Some on) (advert_of (told_by (ons ++ last ∷ []))) ≡ told_by ((ons ++ last ∷ []) ++ on ∷ [])
+pub passes : (ons : List Iface) (last on : Iface) → advert_by (Some on) (advert_of (composed_of (ons ++ last ∷ []))) ≡ composed_of ((ons ++ last ∷ []) ++ on ∷ [])
 passes [] last on = passed last [] on
 passes (first ∷ rest) last on = passed first (rest ++ last ∷ []) on
 
@@ -53,13 +53,13 @@ over_more : (net : Net) (hs : List LinkHop) (h : LinkHop) (x : End) → slice_ge
 over_more net hs h x at = ap (ifaces_at net.ends) (each_more hs h) ∙ one_more net.ends (each (λ (z : LinkHop). z.from) hs) h.from x at
 
 -- over the first hop what begins is told, and over each further one what is passed on
-pub first_told : (net : Net) (h : LinkHop) (x : End) → slice_get net.ends h.from ≡ Some x → advert_by (Some x.iface) Begins ≡ told_over net (h ∷ [])
-first_told net h x at = begins x.iface ∙ ap told_by (sym (over_more net [] h x at))
+pub first_told : (net : Net) (h : LinkHop) (x : End) → slice_get net.ends h.from ≡ Some x → advert_by (Some x.iface) Begins ≡ advert_over net (h ∷ [])
+first_told net h x at = begins x.iface ∙ ap composed_of (sym (over_more net [] h x at))
 
 pub next_told : (net : Net) (hs : List LinkHop) (g h : LinkHop) (x y : End) → slice_get net.ends g.from ≡ Some x → slice_get net.ends h.from ≡ Some y
-    → advert_by (Some y.iface) (advert_of (told_over net (hs ++ g ∷ []))) ≡ told_over net ((hs ++ g ∷ []) ++ h ∷ [])
+    → advert_by (Some y.iface) (advert_of (advert_over net (hs ++ g ∷ []))) ≡ advert_over net ((hs ++ g ∷ []) ++ h ∷ [])
 next_told net hs g h x y at to =
-    ap (λ (is : List Iface). advert_by (Some y.iface) (advert_of (told_by is))) (over_more net hs g x at)
+    ap (λ (is : List Iface). advert_by (Some y.iface) (advert_of (composed_of is))) (over_more net hs g x at)
     ∙ passes (ifaces_over net hs) x.iface y.iface
-    ∙ ap (λ (is : List Iface). told_by (is ++ y.iface ∷ [])) (sym (over_more net hs g x at))
-    ∙ ap told_by (sym (over_more net (hs ++ g ∷ []) h y to))
+    ∙ ap (λ (is : List Iface). composed_of (is ++ y.iface ∷ [])) (sym (over_more net hs g x at))
+    ∙ ap composed_of (sym (over_more net (hs ++ g ∷ []) h y to))

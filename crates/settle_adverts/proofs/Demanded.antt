@@ -30,7 +30,7 @@ use Rattle.network_model.proofs.NodeLocals.{is_live, sender_of_node}
 use Rattle.laws_network.proofs.Known.{node_there, of_some}
 use Rattle.settle_paths.proofs.LiveSenders.{live_listed}
 use Rattle.settle_adverts.specs.Demanded.{HasSettledAdverts, SettledAdvertsAreDemanded, advertised_senders, comes_by, demanded_advert, demanded_adverts_at, end_adverts}
-use Rattle.settle_adverts.specs.Told.{is_advertised, told_of, told_over}
+use Rattle.settle_adverts.specs.Adverts.{is_advertised, advert_at, advert_over}
 use Rattle.settle_adverts.specs.Ways.{way}
 
 -- two options are one where each gives what the other gives
@@ -99,7 +99,7 @@ module _ (q : ℕ) (u : World) (s : HasSettledAdverts q u) where
     demanded = demanded_adverts_at u.net e ours
 
     abbrev over : SenderKey → Option Adspec
-    over k = told_over u.net (way u.net k.0.group k.1.addr n)
+    over k = advert_over u.net (way u.net k.0.group k.1.addr n)
 
     end_is : end_at u.net.ends n i ≡ Some e
     end_is = (interfaces_are_ends u.net).end_of_iface e lt
@@ -132,7 +132,7 @@ module _ (q : ℕ) (u : World) (s : HasSettledAdverts q u) where
         let row : get f.paths k ≡ Some p.0.path = ap (λ (z : Facts). get z.paths k) (sym facts) ∙ p.0.there in
         let iface : p.0.path.iface ≡ i = p.0.iface ∙ ap (λ (z : ℕ). iface_of u.net.ends z) to in
         let adspec : p.0.path.adspec ≡ Some a =
-        p.1 ∙ ap (λ (z : ℕ). told_of u k (node_of u.net.ends z)) to ∙ ap (λ (z : Bool). cond z (over k) None) l.1 ∙ c.1 in
+        p.1 ∙ ap (λ (z : ℕ). advert_at u k (node_of u.net.ends z)) to ∙ ap (λ (z : Bool). cond z (over k) None) l.1 ∙ c.1 in
         get-changed sender_keys (kept_by i) f.paths k
         ∙ ap (λ (z : Option PathState). then_do z (kept_by i k)) row
         ∙ ap (λ (z : Bool). cond z p.0.path.adspec None) (number_same p.0.path.iface i iface)

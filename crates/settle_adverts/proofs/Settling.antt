@@ -38,7 +38,7 @@ use Rattle.settle_paths.proofs.LiveSenders.{senders_found}
 use Rattle.settle_paths.proofs.SoftPaths.{path_made}
 use Rattle.settle_paths.proofs.SoundPaths.{Spot, no_one, path_end}
 use Rattle.settle_adverts.specs.Demanded.{HasSettledAdverts}
-use Rattle.settle_adverts.specs.Told.{AreAdvertsExact, AreAdvertsThere, is_advertised, is_among, told_of, told_over}
+use Rattle.settle_adverts.specs.Adverts.{AreAdvertsExact, AreAdvertsThere, is_advertised, is_among, advert_at, advert_over}
 use Rattle.settle_adverts.specs.Ways.{way}
 use Rattle.settle_adverts.proofs.Composing.{first_told, next_told}
 use Rattle.settle_adverts.proofs.Sending.{IsAdspecSent, IsBegun, IsPassed, adspec_sent}
@@ -50,13 +50,13 @@ record IsTold (w : World) (k : SenderKey) (e : ℕ) (a : Option Adspec) : Type 0
   hop : LinkHop
   there : In hop (tree w.net.hops k.0.group k.1.addr)
   to : hop.to ≡ e
-  is : a ≡ told_of w k (node_of w.net.ends e)
+  is : a ≡ advert_at w k (node_of w.net.ends e)
 
 -- ---- worlds with one network, of which the same is asked, tell the same
-pub told_again : (o u : World) (k : SenderKey) (n : ℕ) → IsSameNet o u → told_of u k n ≡ told_of o k n
+pub told_again : (o u : World) (k : SenderKey) (n : ℕ) → IsSameNet o u → advert_at u k n ≡ advert_at o k n
 told_again o u k n same =
-    ap (λ (z : Net). cond (is_among (option_and_then (advertised_at u) (owner z.ends k.1.addr)) k) (told_over z (way z k.0.group k.1.addr n)) None) same.net
-    ∙ ap (λ (b : Bool). cond b (told_over o.net (way o.net k.0.group k.1.addr n)) None) (by (owner o.net.ends k.1.addr))
+    ap (λ (z : Net). cond (is_among (option_and_then (advertised_at u) (owner z.ends k.1.addr)) k) (advert_over z (way z k.0.group k.1.addr n)) None) same.net
+    ∙ ap (λ (b : Bool). cond b (advert_over o.net (way o.net k.0.group k.1.addr n)) None) (by (owner o.net.ends k.1.addr))
   where
     by : (at : Option ℕ) → is_among (option_and_then (advertised_at u) at) k ≡ is_among (option_and_then (advertised_at o) at) k
     by None = refl
@@ -100,7 +100,7 @@ module _ (q : ℕ) (o : World) (valid : IsValid o.net) (hosts : AreHosts o) wher
   -- what begins at the root
   first_over : (k : SenderKey) (h : LinkHop) (x : End) → In h (tree o.net.hops k.0.group k.1.addr) → slice_get o.net.ends h.from ≡ Some x
       → owner o.net.ends k.1.addr ≡ Some (node_of o.net.ends h.from)
-      → advert_by (Some x.iface) (own_advert (is_advertised o k)) ≡ told_of o k (node_of o.net.ends h.to)
+      → advert_by (Some x.iface) (own_advert (is_advertised o k)) ≡ advert_at o k (node_of o.net.ends h.to)
   first_over k h x there is own = by (is_advertised o k)
     where
       goes : way o.net k.0.group k.1.addr (node_of o.net.ends h.to) ≡ h ∷ []
@@ -108,14 +108,14 @@ module _ (q : ℕ) (o : World) (valid : IsValid o.net) (hosts : AreHosts o) wher
           (a_way_goes_hop_by_hop o.net valid).along k.0.group k.1.addr h there
           ∙ ap (λ (hs : List LinkHop). hs ++ h ∷ []) ((a_way_goes_hop_by_hop o.net valid).root k.0.group k.1.addr (node_of o.net.ends h.from) own)
 
-      by : (b : Bool) → advert_by (Some x.iface) (own_advert b) ≡ cond b (told_over o.net (way o.net k.0.group k.1.addr (node_of o.net.ends h.to))) None
-      by true = first_told o.net h x is ∙ ap (told_over o.net) (sym goes)
+      by : (b : Bool) → advert_by (Some x.iface) (own_advert b) ≡ cond b (advert_over o.net (way o.net k.0.group k.1.addr (node_of o.net.ends h.to))) None
+      by true = first_told o.net h x is ∙ ap (advert_over o.net) (sym goes)
       by false = refl
 
   -- what is told over one more
   next_over : (k : SenderKey) (g h : LinkHop) (x : End) → In g (tree o.net.hops k.0.group k.1.addr) → In h (tree o.net.hops k.0.group k.1.addr) → slice_get o.net.ends h.from ≡ Some x
       → node_of o.net.ends g.to ≡ node_of o.net.ends h.from
-      → advert_by (Some x.iface) (advert_of (told_of o k (node_of o.net.ends h.from))) ≡ told_of o k (node_of o.net.ends h.to)
+      → advert_by (Some x.iface) (advert_of (advert_at o k (node_of o.net.ends h.from))) ≡ advert_at o k (node_of o.net.ends h.to)
   next_over k g h x first there is meet = by (is_advertised o k)
     where
       up : List LinkHop
@@ -127,11 +127,11 @@ module _ (q : ℕ) (o : World) (valid : IsValid o.net) (hosts : AreHosts o) wher
       goes : way o.net k.0.group k.1.addr (node_of o.net.ends h.to) ≡ (up ++ g ∷ []) ++ h ∷ []
       goes = (a_way_goes_hop_by_hop o.net valid).along k.0.group k.1.addr h there ∙ ap (λ (hs : List LinkHop). hs ++ h ∷ []) comes
 
-      by : (b : Bool) → advert_by (Some x.iface) (advert_of (cond b (told_over o.net (way o.net k.0.group k.1.addr (node_of o.net.ends h.from))) None))
-          ≡ cond b (told_over o.net (way o.net k.0.group k.1.addr (node_of o.net.ends h.to))) None
+      by : (b : Bool) → advert_by (Some x.iface) (advert_of (cond b (advert_over o.net (way o.net k.0.group k.1.addr (node_of o.net.ends h.from))) None))
+          ≡ cond b (advert_over o.net (way o.net k.0.group k.1.addr (node_of o.net.ends h.to))) None
       by true =
           let y = some_at o.net.ends g.from (from_there o.net valid k.0.group k.1.addr g first) in
-          ap (λ (hs : List LinkHop). advert_by (Some x.iface) (advert_of (told_over o.net hs))) comes ∙ next_told o.net up g h y.0 x y.1 is ∙ ap (told_over o.net) (sym goes)
+          ap (λ (hs : List LinkHop). advert_by (Some x.iface) (advert_of (advert_over o.net hs))) comes ∙ next_told o.net up g h y.0 x y.1 is ∙ ap (advert_over o.net) (sym goes)
       by false = refl
 
   -- ---- a node that is less far from the root tells so
@@ -157,7 +157,7 @@ module _ (q : ℕ) (o : World) (valid : IsValid o.net) (hosts : AreHosts o) wher
         there = h.1;
         to = h.3;
         is = c.adspec
-            ∙ ⊎_elim {C = c.path.adspec ≡ told_of o k (node_of o.net.ends h.0.to)}
+            ∙ ⊎_elim {C = c.path.adspec ≡ advert_at o k (node_of o.net.ends h.0.to)}
             (λ (l : IsBegun p.on p.facts p.sender p.tspec c.path).
             let sends : get p.facts.senders k ≡ Some p.tspec = ap (λ (z : SenderKey). get p.facts.senders z) (sym key) ∙ l.0 in
             let own : owner o.net.ends k.1.addr ≡ Some p.node = own_there u' known p.node p.facts k p.tspec p.after sends in
@@ -171,10 +171,10 @@ module _ (q : ℕ) (o : World) (valid : IsValid o.net) (hosts : AreHosts o) wher
             (level (k, b.0, b.2, subst (λ (z : ℕ). depth o.net k.0.group k.1.addr z ≤ d) (sym b.3) low)).0 l.0.adspec l.0.dies
             (adspec_made (iface_of o.net.ends b.0) (path_at u' (node_of o.net.ends b.0) k) l.0 (ap (λ (z : ℕ). path_at u' z k) b.3 ∙ path_made u' p.node k l.0 p.facts p.after there) (sym b.4)) in
             let meet : node_of o.net.ends told.hop.to ≡ node_of o.net.ends h.0.from = ap (node_of o.net.ends) told.to ∙ b.3 ∙ sym from in
-            l.2 ∙ ap (λ (z : Option Adspec). advert_by (Some p.on.iface) (advert_of z)) (told.is ∙ ap (told_of o k) (b.3 ∙ sym from))
+            l.2 ∙ ap (λ (z : Option Adspec). advert_by (Some p.on.iface) (advert_of z)) (told.is ∙ ap (advert_at o k) (b.3 ∙ sym from))
             ∙ next_over k told.hop h.0 p.on told.there h.1 on meet)
             p.source
-            ∙ ap (told_of o k) into;
+            ∙ ap (advert_at o k) into;
       }
 
   carried_step : (d n : ℕ) (k : SenderKey) (e : ℕ) → depth o.net k.0.group k.1.addr (node_of o.net.ends e) ≤ suc d → (s : Step) (u : World) → is_quiet s ≡ true
@@ -217,7 +217,7 @@ module _ (q : ℕ) (o : World) (valid : IsValid o.net) (hosts : AreHosts o) wher
         let told : IsTold o k b.0 x.adspec =
         (level (k, b.0, b.2, deep)).0 x.adspec x.dies
         (adspec_made (iface_of o.net.ends b.0) (path_at u (node_of o.net.ends b.0) k) x (ap (λ (z : ℕ). path_at u z k) b.3 ∙ path_made u n k x f there h) (sym b.4)) in
-        told.is ∙ ap (told_of o k) b.3 ∙ sym (told_again o u k n known.same);
+        told.is ∙ ap (advert_at o k) b.3 ∙ sym (told_again o u k n known.same);
     carried = λ y m x t i spelt sender way.
         let inside : inward o.net (node_of o.net.ends y.end) m.session.group x.addr ≡ Some y.end =
         subst (λ (z : Net). inward z (node_of z.ends y.end) m.session.group x.addr ≡ Some y.end) known.same.net way in
@@ -226,7 +226,7 @@ module _ (q : ℕ) (o : World) (valid : IsValid o.net) (hosts : AreHosts o) wher
         (level ((m.session, x), y.end, (inward_there o.net valid (node_of o.net.ends y.end) y.end m.session.group x.addr inside).0, deep)).1 y m.adspec i (omega arith)
         (record { end = refl; path = m; tspec = t; spelt = spelt; session = refl; sender = sender; adspec = refl; inward = inside }) in
         told.is ∙ sym (told_again o u (m.session, x) (node_of o.net.ends y.end) known.same)
-        ∙ ap (λ (z : Net). told_of u (m.session, x) (node_of z.ends y.end)) (sym known.same.net);
+        ∙ ap (λ (z : Net). advert_at u (m.session, x) (node_of z.ends y.end)) (sym known.same.net);
   }
 
 pub adverts_are_exact : (q : ℕ) (w : World) (rs : List (List Step)) → Rounds (machine q) rs w → AreHosts w → Hold (machine q) 0 rs w (AreBounds q)

@@ -31,11 +31,11 @@ use Rattle.laws_network.proofs.Calming.{calm_rounds}
 use Rattle.laws_network.proofs.Example.{a_pair_stays_within_bounds, hosts, valid}
 use Rattle.laws_network.proofs.Keeping.{each_step_keeps_a_world_within_bounds}
 use Rattle.laws_network.proofs.Known.{of_some}
-use Rattle.settle_adverts.specs.Told.{AreAdvertsThere}
-use Rattle.settle_adverts.specs.Worked.{ASenderIsAdvertised, AnAdspecIsLeftOver, advertised_world, on, told_path, told_plan, told_world}
+use Rattle.settle_adverts.specs.Adverts.{AreAdvertsThere}
+use Rattle.settle_adverts.specs.Worked.{ASenderIsAdvertised, AnAdspecIsLeftOver, advertised_world, on, kept_path, kept_plan, kept_world}
 
 -- ---- a left-over path
-fit_path : IsFitStale (config_of 7500 pair_net (trees_of pair_net.hops) 1) 0 (StalePath (session, first) told_path)
+fit_path : IsFitStale (config_of 7500 pair_net (trees_of pair_net.hops) 1) 0 (StalePath (session, first) kept_path)
 fit_path = (
   record { later = omega arith; soon = omega arith },
   record {
@@ -45,33 +45,33 @@ fit_path = (
   },
 )
 
-within : AreBounds 7500 told_world
+within : AreBounds 7500 kept_world
 within =
-    the_first_world_is_within_bounds told_plan
+    the_first_world_is_within_bounds kept_plan
     (record {
       period = omega arith;
       net = valid;
       hosts = hosts;
       stale = λ n i lt j.
           ⊎_elim
-          (λ (same : (n, i) ≡ (1, StalePath (session, first) told_path)). subst (λ (z : ℕ × Stale). IsFitStale (config_of 7500 pair_net (trees_of pair_net.hops) z.0) 0 z.1) (sym same) fit_path)
+          (λ (same : (n, i) ≡ (1, StalePath (session, first) kept_path)). subst (λ (z : ℕ × Stale). IsFitStale (config_of 7500 pair_net (trees_of pair_net.hops) z.0) 0 z.1) (sym same) fit_path)
           (λ (no : ⊥). absurd no) j;
     })
 
 -- nobody sends
-nobody : (n : ℕ) (f : Facts) (k : SenderKey) (t : TokenBucket) → slice_get told_world.nodes n ≡ Some f → get f.senders k ≡ Some t → ⊥
+nobody : (n : ℕ) (f : Facts) (k : SenderKey) (t : TokenBucket) → slice_get kept_world.nodes n ≡ Some f → get f.senders k ≡ Some t → ⊥
 unfolding facts_with
 nobody zero f k t e h =
-    let same : first_facts told_plan 0 ≡ f = of_some _ _ e in
+    let same : first_facts kept_plan 0 ≡ f = of_some _ _ e in
     let none : get no_facts.senders k ≡ Some t = ap (λ (z : Facts). get z.senders k) same ∙ h in
     cc
 nobody (suc zero) f k t e h =
-    let same : first_facts told_plan 1 ≡ f = of_some _ _ e in
+    let same : first_facts kept_plan 1 ≡ f = of_some _ _ e in
     let none : get no_facts.senders k ≡ Some t = ap (λ (z : Facts). get z.senders k) same ∙ h in
     cc
 nobody (suc (suc n)) f k t e h = cc
 
-no_hosts : AreHosts told_world
+no_hosts : AreHosts kept_world
 unfolding facts_with
 no_hosts = record {
   placed = λ n f k t e h. absurd (nobody n f k t e h);
@@ -85,9 +85,9 @@ unfolding facts_with
 an_adspec_is_left_over = record {
   bounds = within;
   hosts = no_hosts;
-  rounds = λ k. calm_rounds 7500 k told_world;
+  rounds = λ k. calm_rounds 7500 k kept_world;
   there = refl;
-  not_yet = λ exact. let no : Some (start on) ≡ None = exact.kept 1 (first_facts told_plan 1) (session, first) told_path refl refl in cc;
+  not_yet = λ exact. let no : Some (start on) ≡ None = exact.kept 1 (first_facts kept_plan 1) (session, first) kept_path refl refl in cc;
 }
 
 -- ---- a host that advertises
@@ -137,7 +137,7 @@ a_sender_is_advertised = record {
   live = live;
   rounds = λ k. calm_rounds 7500 k advertised_world;
   goes = refl;
-  told = refl;
+  composed = refl;
   not_yet = not_yet;
   heard = refl;
 }

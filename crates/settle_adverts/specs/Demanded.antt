@@ -16,7 +16,7 @@ use Rattle.network_model.specs.Sound.{ArePathsSound}
 use Rattle.network_model.specs.Steps.{Adverts}
 use Rattle.network_model.specs.Texts.{adverts_text}
 use Rattle.network_model.specs.Worlds.{World}
-use Rattle.settle_adverts.specs.Told.{AreAdvertsExact, AreAdvertsThere, is_advertised, told_over}
+use Rattle.settle_adverts.specs.Adverts.{AreAdvertsExact, AreAdvertsThere, is_advertised, advert_over}
 use Rattle.settle_adverts.specs.Ways.{way}
 
 -- the live senders that are advertised
@@ -31,7 +31,7 @@ module _ (net : Net) (e : ℕ) where
 
   -- then the advertisement of the way to there
   abbrev pub demanded_advert : SenderKey → Option Adspec
-  demanded_advert k = cond (comes_by k) (told_over net (way net k.0.group k.1.addr (node_of net.ends e))) None
+  demanded_advert k = cond (comes_by k) (advert_over net (way net k.0.group k.1.addr (node_of net.ends e))) None
 
   -- of each of these senders
   abbrev pub demanded_adverts_at : Set sender_keys → Table sender_keys Adspec

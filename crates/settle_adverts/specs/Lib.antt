@@ -1,4 +1,4 @@
 pub mod Ways
-pub mod Told
+pub mod Adverts
 pub mod Demanded
 pub mod Worked

@@ -19,37 +19,37 @@ use Rattle.network_model.specs.Steps.{At, Deliver, machine, step}
 use Rattle.network_model.specs.Worlds.{World}
 use Rattle.laws_network.specs.Example.{pair_net, sending_world}
 use Rattle.laws_network.specs.Rounds.{rounds_of}
-use Rattle.settle_adverts.specs.Told.{AreAdvertsExact, AreAdvertsThere, told_of}
+use Rattle.settle_adverts.specs.Adverts.{AreAdvertsExact, AreAdvertsThere, advert_at}
 use Rattle.settle_adverts.specs.Ways.{way}
 
 -- ---- a left-over path of a sender that nobody is, with the ADSPEC with which a Path leaves its sender's node
 abbrev pub on : Iface
 on = record { addr = s1; capacity = 20000; mtu = 1500; latency = 100 }
 
-abbrev pub told_path : PathState
-told_path = record { iface = 0; hop = record { addr = s1; handle = 0 }; tspec = usual; police = false; adspec = Some (start on); dies = 157500 }
+abbrev pub kept_path : PathState
+kept_path = record { iface = 0; hop = record { addr = s1; handle = 0 }; tspec = usual; police = false; adspec = Some (start on); dies = 157500 }
 
-abbrev pub told_plan : Plan
-told_plan = record {
+abbrev pub kept_plan : Plan
+kept_plan = record {
   quarter = 7500;
   seed = 1;
   net = pair_net;
   names = codes "s1" ∷ codes "r1" ∷ [];
-  stale = (1, StalePath (session, first) told_path) ∷ [];
+  stale = (1, StalePath (session, first) kept_path) ∷ [];
   events = [];
 }
 
-abbrev pub told_world : World
-told_world = first_world told_plan
+abbrev pub kept_world : World
+kept_world = first_world kept_plan
 
 pub record AnAdspecIsLeftOver : Type 0 where
-  pub bounds : AreBounds 7500 told_world
-  pub hosts : AreHosts told_world
+  pub bounds : AreBounds 7500 kept_world
+  pub hosts : AreHosts kept_world
   -- however many rounds, they are calm
-  pub rounds : (k : ℕ) → Rounds (machine 7500) (rounds_of 7500 k told_world) told_world
-  pub there : get (first_facts told_plan 1).paths (session, first) ≡ Some told_path
+  pub rounds : (k : ℕ) → Rounds (machine 7500) (rounds_of 7500 k kept_world) kept_world
+  pub there : get (first_facts kept_plan 1).paths (session, first) ≡ Some kept_path
   -- what is promised does not hold yet
-  pub not_yet : AreAdvertsExact told_world → ⊥
+  pub not_yet : AreAdvertsExact kept_world → ⊥
 
 -- ---- a host that sends, and is told to advertise
 abbrev pub advertised_world : World
@@ -69,7 +69,7 @@ pub record ASenderIsAdvertised : Type 0 where
   pub live : IsLive advertised_world (session, first) usual
   pub rounds : (k : ℕ) → Rounds (machine 7500) (rounds_of 7500 k advertised_world) advertised_world
   pub goes : way pair_net group s1 1 ≡ record { from = 0; to = 1 } ∷ []
-  pub told : told_of advertised_world (session, first) 1 ≡ Some one_hop
+  pub composed : advert_at advertised_world (session, first) 1 ≡ Some one_hop
   -- what is promised does not hold yet
   pub not_yet : AreAdvertsThere advertised_world → ⊥
   pub heard : option_map (λ x. x.adspec) (get (unwrap_or (slice_get heard_world.nodes 1) no_facts).paths (session, first)) ≡ Some (Some one_hop)

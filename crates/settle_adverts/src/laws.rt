@@ -9,7 +9,7 @@ ghost use Rattle.network_model.specs.Bounds.{AreBounds, AreHosts};
 ghost use Rattle.network_model.specs.Steps.{Step, machine};
 ghost use Rattle.network_model.specs.Worlds.{World};
 ghost use Rattle.settle_adverts.specs.Demanded.{HasSettledAdverts, SettledAdvertsAreDemanded};
-ghost use Rattle.settle_adverts.specs.Told.{AreAdvertsExact, AreAdvertsThere};
+ghost use Rattle.settle_adverts.specs.Adverts.{AreAdvertsExact, AreAdvertsThere};
 ghost use Rattle.settle_adverts.specs.Ways.{AWayGoesHopByHop};
 
 /// A way goes hop by hop along its tree: none to the node of the source, and to the node that a hop of the tree goes into the way to the

@@ -54,7 +54,7 @@ use Rattle.network_model.specs.Worlds.{Item, World, config_of}
 use Rattle.network_model.proofs.Machines.{in_arrived}
 use Rattle.network_model.proofs.Quiet.{FollowsRule, IsCame, input_found, outcome_quiet, IsWaited}
 use Rattle.network_model.proofs.Stepping.{copies_found, facts_after_made, sent_found}
-use Rattle.settle_adverts.specs.Told.{AreAdvertsExact}
+use Rattle.settle_adverts.specs.Adverts.{AreAdvertsExact}
 use Rattle.settle_adverts.proofs.Settling.{told_again}
 use Rattle.settle_paths.specs.Known.{IsSameNet}
 use Rattle.settle_paths.proofs.Known.{has_some, of_some}

@@ -21,7 +21,7 @@ use Rattle.network_model.proofs.Listing.{in_remove}
 use Rattle.laws_network.specs.Rounds.{rounds_of}
 use Rattle.laws_network.proofs.Calming.{rounds_is_calm}
 use Rattle.laws_network.proofs.Keeping.{calm_rounds_keep_bounds}
-use Rattle.settle_adverts.specs.Told.{AreAdvertsExact}
+use Rattle.settle_adverts.specs.Adverts.{AreAdvertsExact}
 use Rattle.settle_adverts.proofs.Settling.{adverts_are_exact}
 use Rattle.settle_network.proofs.Settled.{run_then}
 use Rattle.network_overhead.specs.Overhead.{overhead}
