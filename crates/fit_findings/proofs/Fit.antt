@@ -57,6 +57,20 @@ pub nothing_clashing : (net : Net) (l : Locals) (ss : List Session) → DemandsF
 nothing_clashing net l ss fit two = empty_list ss (λ s i.
     let h = two s i in h.differs.differ.1 (fit.one_style h.differs.other h.one h.differs.wanted h.wanted h.differs.differ.0))
 
+-- ---- tables
+pub tables_told : (m : Misfits) (net : Net) (l : Locals) (fits nothing : Bool) → m.tables ≡ (not fits && nothing)
+    → (nothing ≡ true) ↔ ((m.over.items ≡ []) × (m.large.items ≡ []) × (m.clashing.items ≡ [])) → (fits ≡ true) ↔ DemandsFit net l
+    → (m.tables ≡ true) ↔ ((m.over.items ≡ []) × (m.large.items ≡ []) × (m.clashing.items ≡ []) × (DemandsFit net l → ⊥))
+tables_told m net l true nothing tables of_nothing of_fits = (λ told. absurd (let z : false ≡ true = sym tables ∙ told in cc), λ r. absurd (r.3 (of_fits.0 refl)))
+tables_told m net l false true tables of_nothing of_fits = (
+  λ told. let r = of_nothing.0 refl in (r.0, r.1, r.2, λ fit. absurd (let z : false ≡ true = of_fits.1 fit in cc)),
+  λ r. tables,
+)
+tables_told m net l false false tables of_nothing of_fits = (
+  λ told. absurd (let z : false ≡ true = sym tables ∙ told in cc),
+  λ r. absurd (let z : false ≡ true = of_nothing.1 (r.0, r.1, r.2) in cc),
+)
+
 -- ---- all
 pub none_told : (m : Misfits) (net : Net) (l : Locals) (fits nothing : Bool) → m.tables ≡ (not fits && nothing) → (nothing ≡ true) ↔ ((m.over.items ≡ []) × (m.large.items ≡ []) × (m.clashing.items ≡ []))
     → (fits ≡ true) ↔ DemandsFit net l → AreMisfits net l m → AreNone m ↔ DemandsFit net l

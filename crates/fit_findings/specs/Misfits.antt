@@ -1,5 +1,5 @@
 -- What does not fit in the demands of a network.
-use Rattle.std.specs.Prelude.{◌≡◌, ◌≢◌, ◌↔◌, ℕ, max, nat_lt, Bool, false, List, [], ◌∷◌, length, Option, None, Some, slice_get}
+use Rattle.std.specs.Prelude.{◌≡◌, ◌≢◌, ◌↔◌, ℕ, max, nat_lt, Bool, false, true, List, [], ◌∷◌, length, Option, None, Some, slice_get}
 use Rattle.std.specs.List.{filter, range_with_len}
 use Rattle.rsvp_base.specs.Members.{In}
 use Rattle.rsvp_base.specs.declared.entry_key.EntryKey.{EntryKey}
@@ -7,7 +7,7 @@ use Rattle.rsvp_base.specs.declared.part.Part.{Part}
 use Rattle.rsvp_base.specs.declared.session.Session.{Session}
 use Rattle.style_rules.specs.Lines.{BookTable, held}
 use Rattle.tree_model.specs.Chains.{NoRepeats}
-use Rattle.tree_model.specs.Goals.{demand_of}
+use Rattle.tree_model.specs.Goals.{DemandsFit, demand_of}
 use Rattle.tree_model.specs.Networks.{Net}
 use Rattle.tree_model.specs.Wants.{Locals}
 use Rattle.tree_model.specs.declared.hops.End.{End}
@@ -59,6 +59,8 @@ pub record AreMisfits (net : Net) (l : Locals) (m : Misfits) : Type 0 where
   pub large : m.large.items ≡ numbers_with is_large net.ends (demand_of net l)
   pub once : NoRepeats m.clashing.items
   pub clashing : (s : Session) → In s m.clashing.items ↔ HasTwoStyles l.wants s
+  -- the tables of a node are too small: where nothing else is wrong, and the demands do not fit
+  pub tables : (m.tables ≡ true) ↔ ((m.over.items ≡ []) × (m.large.items ≡ []) × (m.clashing.items ≡ []) × (DemandsFit net l → ⊥))
 
 -- nothing is found
 pub record AreNone (m : Misfits) : Type 0 where

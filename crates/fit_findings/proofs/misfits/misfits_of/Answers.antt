@@ -5,7 +5,7 @@ use Rattle.rsvp_base.specs.Members.{In}
 use Rattle.rsvp_base.specs.declared.session.Session.{Session}
 use Rattle.tree_model.specs.declared.locals.LocalWant.{LocalWant}
 use Rattle.fit_findings.specs.Misfits.{HasTwoStyles, is_large, is_over, numbers_with}
-use Rattle.fit_findings.proofs.Fit.{none_told, numbers_same}
+use Rattle.fit_findings.proofs.Fit.{none_told, numbers_same, tables_told}
 use Rattle.fit_findings.proofs.misfits.misfits_of.Goals as goal
 
 pub returns-clause-all : goal.returns-clause-all
@@ -18,6 +18,8 @@ returns-clause-all c =
       large = c.in_ok-large.ensures ∙ (λ i. numbers_with is_large (c.ends-2.ensures.ends i) (book_at (c.as_slice-2.ensures.value i))) ∙ numbers_same is_large net l books c.requires.ends;
       once = c.in_ok-clashing.ensures.once;
       clashing = subst (λ (ws : List LocalWant). (s : Session) → In s c.in_ok-clashing.clashing.items ↔ HasTwoStyles ws s) c.as_slice-3.ensures.value c.in_ok-clashing.ensures.all;
+      tables = tables_told (record { over = c.in_ok-over.over; large = c.in_ok-large.large; clashing = c.in_ok-clashing.clashing; tables = c.is_left-tables.result }) net l
+          c.args.demand.now.fits c.are_empty.result c.is_left-tables.ensures c.are_empty.ensures c.requires.fits;
     }
 
 pub returns-clause-none : goal.returns-clause-none
@@ -31,4 +33,6 @@ returns-clause-none c =
       large = c.in_ok-large.ensures ∙ (λ i. numbers_with is_large (c.ends-2.ensures.ends i) (book_at (c.as_slice-2.ensures.value i))) ∙ numbers_same is_large net l books c.requires.ends;
       once = c.in_ok-clashing.ensures.once;
       clashing = subst (λ (ws : List LocalWant). (s : Session) → In s c.in_ok-clashing.clashing.items ↔ HasTwoStyles ws s) c.as_slice-3.ensures.value c.in_ok-clashing.ensures.all;
+      tables = tables_told (record { over = c.in_ok-over.over; large = c.in_ok-large.large; clashing = c.in_ok-clashing.clashing; tables = c.is_left-tables.result }) net l
+          c.args.demand.now.fits c.are_empty.result c.is_left-tables.ensures c.are_empty.ensures c.requires.fits;
     })
