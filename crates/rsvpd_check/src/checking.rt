@@ -15,7 +15,7 @@ use std::alloc::Global;
 #[derive(Drop)]
 pub(crate) struct Outcome {
     pub(crate) status: Status,
-    /// Whether anything was said but that no later round is crowded.
+    /// Whether anything was said but that refreshes crowd no later round.
     pub(crate) said: bool,
 }
 

@@ -2,7 +2,7 @@
 //!
 //! Its promises are the clauses of `check`, which `main` calls with standard input and standard output: a misfit is said if and only if
 //! the demand of the script ends in `fits no`, and else how much is in flight once all has settled: the refresh overhead. It ends as
-//! `demand` does, and with `--strict` in status 10 where it said anything but that no later round is crowded.
+//! `demand` does, and with `--strict` in status 10 where it said anything but that refreshes crowd no later round.
 #![tactic(auto)]
 
 mod checking;

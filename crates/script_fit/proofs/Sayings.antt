@@ -119,13 +119,13 @@ a_room_text false n = inl refl
 
 -- ---- findings and demands
 module _ (nodes names : List (List ℕ)) (net : Net) (l : Locals) (begun : List Begun) where
-  said_unfit : (text : List ℕ) → IsFindingsText nodes names net l begun text → (DemandsFit net l → ⊥) → SaysAMisfit text
+  pub said_unfit : (text : List ℕ) → IsFindingsText nodes names net l begun text → (DemandsFit net l → ⊥) → SaysAMisfit text
   said_unfit text t unfit =
       subst SaysAMisfit (sym t.text_is)
       (says_on (findings_text nodes names net.ends l t.found) (room_text t.fits (overhead net l))
       (says_on (misfits_text nodes names net.ends t.found) (strays_text nodes l t.found) (misfits_said nodes names net.ends t.found (λ none. unfit (t.none.0 none)))))
 
-  fit_unsaid : (text : List ℕ) → IsFindingsText nodes names net l begun text → DemandsFit net l → SaysAMisfit text → ⊥
+  pub fit_unsaid : (text : List ℕ) → IsFindingsText nodes names net l begun text → DemandsFit net l → SaysAMisfit text → ⊥
   fit_unsaid text t fit says =
       let nothing : misfits_text nodes names net.ends t.found ≡ [] = nothing_said nodes names net.ends t.found (t.none.1 fit) in
       strays_say_nothing (strays_text nodes l t.found) (room_text t.fits (overhead net l)) (all_are_strays nodes l t.found) (a_room_text t.fits (overhead net l))

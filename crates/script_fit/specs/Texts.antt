@@ -165,12 +165,12 @@ strays_text nodes l f = flat_map (stray_text nodes l) f.askers.items ++ flat_map
 
 -- ---- how much is in flight
 abbrev pub crowds_text : Bool → List ℕ
-crowds_text true = codes "a later round may be crowded\n"
-crowds_text false = codes "no later round is crowded\n"
+crowds_text true = codes "refreshes may crowd a later round\n"
+crowds_text false = codes "refreshes crowd no later round\n"
 
 -- a round of the network that has settled has this refresh overhead in flight at most
 unfoldable pub room_line : ℕ → List ℕ
-room_line n = codes "room: settled, a round has at most " ++ decimal n ++ codes " datagrams in flight, and 8192 may be: " ++ crowds_text (nat_lt 8192 n)
+room_line n = codes "room: settled, a round has at most " ++ decimal n ++ codes " refreshes in flight, and 8192 datagrams may be: " ++ crowds_text (nat_lt 8192 n)
 
 -- where the demand fits
 abbrev pub room_text : Bool → ℕ → List ℕ

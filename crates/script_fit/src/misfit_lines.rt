@@ -5,7 +5,8 @@ ghost use Rattle.std.specs.List.{flat_map, list_any};
 ghost use Rattle.fit_findings.specs.Misfits.{largest_of};
 ghost use Rattle.network_demand.specs.Books.{book_at};
 ghost use Rattle.style_rules.specs.Lines.{held};
-ghost use Rattle.script_fit.specs.Texts.{asker_line, capacity_of, clash_head, end_words, is_asker, is_of_session, large_head, large_words, mtu_of, name_at, over_head, over_words, tables_line, want_line, wanter_line};
+ghost use Rattle.script_fit.specs.Texts.{asker_line, capacity_of, clash_head, end_words, is_asker, is_of_session, large_head, large_words, mtu_of, name_at, over_head, over_words};
+ghost use Rattle.script_fit.specs.Texts.{tables_line, want_line, wanter_line};
 ghost use Rattle.script_fit.specs.Texts.{clash_text, large_text, misfits_text, over_text, tables_text};
 
 use crate::late_lines::put_starved;

@@ -51,7 +51,7 @@ fn put_line(out: &mut Vec<u8>, most: u128) -> Result<(), NoMemory>
 {
     put(out, b"room: settled, a round has at most ")?;
     put_sum(out, most)?;
-    put(out, b" datagrams in flight, and 8192 may be: ")?;
+    put(out, b" refreshes in flight, and 8192 datagrams may be: ")?;
     put_crowds(out, may_crowd(most))
 }
 
@@ -60,9 +60,9 @@ fn put_crowds(out: &mut Vec<u8>, may: bool) -> Result<(), NoMemory>
     ensures { OnOk result (out.new.items ≡ out.old.items ++ crowds_text may) }
 {
     if may {
-        return put(out, b"a later round may be crowded\n");
+        return put(out, b"refreshes may crowd a later round\n");
     }
-    put(out, b"no later round is crowded\n")
+    put(out, b"refreshes crowd no later round\n")
 }
 
 // Appends a sum in decimal digits.

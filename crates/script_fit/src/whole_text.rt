@@ -18,7 +18,7 @@ use tree_routing::Routing;
 #[derive(Drop)]
 pub struct Saying {
     pub text: Vec<u8>,
-    /// Whether something is found, or a later round may be crowded.
+    /// Whether something is found, or refreshes may crowd a later round.
     pub said: bool,
 }
 

@@ -29,7 +29,7 @@ use std::alloc::Global;
 #[derive(Drop)]
 pub struct Checked {
     pub ending: Ending,
-    /// Whether anything was said but that no later round is crowded.
+    /// Whether anything was said but that refreshes crowd no later round.
     pub said: bool,
 }
 
