@@ -52,9 +52,16 @@ pub fn run_script<C: Checks + Drop, R: Opens, S: Source, K: Sink, W: Watch>(
     let mut player: ScriptPlayer<C, R> = ScriptPlayer::new(alloc, checker);
     match run_lines(alloc, &mut player, source, sink, watch, advice) {
         Ending::Done => {
-            *last = player.into_world();
+            leave(last, player.into_world());
             Ending::Done
         }
         other => other,
     }
+}
+
+// Leaves the network in which a run ended. Here alone the one before it is dropped.
+fn leave<R: Opens>(last: &mut Option<World<R>>, world: Option<World<R>>)
+    ensures { last.new ≡ world }
+{
+    *last = world;
 }
