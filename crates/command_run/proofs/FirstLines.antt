@@ -16,10 +16,10 @@ use Rattle.script_run.specs.declared.ending.Ending.TheVariants as ends
 use Rattle.script_grammar.specs.Draft.{Draft, nothing, plan_of}
 use Rattle.script_grammar.specs.Grammar.{Leads}
 use Rattle.script_run.specs.Standing.{IsNetworkOf}
-use Rattle.script_theorem.specs.Fronts.{IsFront}
-use Rattle.script_theorem.specs.Theorem.{IsSafe}
-use Rattle.script_theorem.proofs.Fronts.{fronts_have_healed_reports}
-use Rattle.script_theorem.proofs.Safety.{first_lines_are_safe, first_lines_heal_themselves}
+use Rattle.laws_grown.specs.ScriptTheorem.Fronts.{IsFront}
+use Rattle.laws_grown.specs.ScriptTheorem.Theorem.{IsSafe}
+use Rattle.laws_grown.proofs.ScriptTheorem.Fronts.{fronts_have_healed_reports}
+use Rattle.laws_grown.proofs.ScriptTheorem.Safety.{first_lines_are_safe, first_lines_heal_themselves}
 use Rattle.script_words.specs.Lines.{text_lines}
 use Rattle.command_run.specs.Commands.{Stands}
 use Rattle.command_run.specs.FirstLines.{HasRunFirstLines, IsLeftIn, IsSafeFile, lines_run}

@@ -14,8 +14,8 @@ use Rattle.grown_network.specs.declared.summary.Summary.{Summary}
 use Rattle.network_replay.specs.Agreeing.{NetworkState}
 use Rattle.network_replay.specs.Following.{Seen}
 use Rattle.script_run.specs.Standing.{IsNetworkOf}
-use Rattle.script_theorem.specs.Theorem.{IsSafe}
-use Rattle.script_theorem.proofs.Safety.{fit_runs_are_safe}
+use Rattle.laws_grown.specs.ScriptTheorem.Theorem.{IsSafe}
+use Rattle.laws_grown.proofs.ScriptTheorem.Safety.{fit_runs_are_safe}
 use Rattle.laws_grown.proofs.Fit.{grown_runs_are_fit}
 use Rattle.laws_grown.proofs.Ending.{a_grown_run_is_its_demand}
 use Rattle.laws_grown.proofs.Equal.{a_grown_network_is_as_demanded}

@@ -14,8 +14,8 @@ use Rattle.script_grammar.specs.Draft.{Draft, nothing, plan_of, routing}
 use Rattle.script_grammar.specs.Grammar.{IsScript, Leads}
 use Rattle.script_grammar.proofs.Scripts.{one_script_law}
 use Rattle.laws_scripts.proofs.EventLines.{each_script_is_a_fit_run}
-use Rattle.script_theorem.specs.Theorem.{HealsItself}
-use Rattle.script_theorem.proofs.Safety.{first_lines_heal_themselves}
+use Rattle.laws_grown.specs.ScriptTheorem.Theorem.{HealsItself}
+use Rattle.laws_grown.proofs.ScriptTheorem.Safety.{first_lines_heal_themselves}
 use Rattle.laws_grown.proofs.ScriptTheorem.WorldDemands.{scripts_stand, the_last_report_is_the_demand}
 use Rattle.laws_grown.specs.ScriptTheorem.Demands.{moment}
 use Rattle.laws_grown.specs.ScriptTheorem.RoundsAmong.{rounds_among}

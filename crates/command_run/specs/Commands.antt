@@ -15,7 +15,7 @@ use Rattle.script_demand.specs.Demanding.{DemandsTo}
 use Rattle.script_run.specs.Standing.{IsNetworkOf}
 use Rattle.grown_network.specs.Grown.{grown_plan}
 use Rattle.grown_player.specs.Endings.{GrowsTo}
-use Rattle.script_theorem.specs.Theorem.{IsSafe}
+use Rattle.laws_grown.specs.ScriptTheorem.Theorem.{IsSafe}
 use Rattle.command_run.specs.Advised.{IsAdvised, IsShowAdvised}
 use Rattle.command_run.specs.Demanding.{IsDemand}
 use Rattle.command_run.specs.FirstLines.{HasRunFirstLines, IsLeftIn, IsSafeFile, lines_run}

@@ -11,8 +11,8 @@ use Rattle.script_run.specs.declared.ending.Ending.TheVariants.{Done, BadLine, R
 use Rattle.script_grammar.specs.Draft.{Draft, nothing, plan_of}
 use Rattle.script_grammar.specs.Grammar.{Leads}
 use Rattle.script_words.specs.Lines.{text_lines}
-use Rattle.script_theorem.specs.Fronts.{HasHealedReports, IsFront}
-use Rattle.script_theorem.specs.Theorem.{IsSafe, IsWorldOf}
+use Rattle.laws_grown.specs.ScriptTheorem.Fronts.{HasHealedReports, IsFront}
+use Rattle.laws_grown.specs.ScriptTheorem.Theorem.{IsSafe, IsWorldOf}
 
 -- ---- whatever is in a file
 -- of these bytes, a script or not: whatever its first n lines are, if they may begin a script, each step of their run is safe

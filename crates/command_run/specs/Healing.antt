@@ -10,7 +10,7 @@ use Rattle.network_model.specs.Steps.{Report, Step}
 use Rattle.network_model.specs.DemandTexts.{demand_text}
 use Rattle.script_grammar.specs.Draft.{Draft, plan_of, routing}
 use Rattle.script_grammar.specs.Grammar.{IsScript}
-use Rattle.script_theorem.specs.Theorem.{HealsItself}
+use Rattle.laws_grown.specs.ScriptTheorem.Theorem.{HealsItself}
 use Rattle.laws_grown.specs.ScriptTheorem.RoundsAmong.{AreRoundsAndWriting, rounds_among}
 use Rattle.laws_grown.specs.ScriptTheorem.Writing.{OnlyWrite}
 use Rattle.laws_texts.specs.Reading.{TellsWithinCapacity}

@@ -16,12 +16,12 @@ use Rattle.settle_adverts.proofs.Demanded.{settled_adverts_are_demanded}
 use Rattle.settle_adverts.proofs.Settling.{all_adverts_settle}
 use Rattle.settle_network.proofs.RunsSettle.{joined, visited_at}
 use Rattle.settle_network.proofs.Settled.{run_all, run_then}
-use Rattle.script_theorem.specs.AdvertReports.{ASettledAdvertsLineIsDemanded, IsAdvertised, to_advertise}
+use Rattle.script_theorem.specs.AdvertReports.{ASettledAdvertsLineIsDemanded, AreAdvertsSettled, to_advertise}
 use Rattle.script_theorem.specs.Demands.{moment}
 use Rattle.script_theorem.proofs.Demands.{all_made, text_then}
 use Rattle.script_theorem.proofs.Writing.{a_moment_stays_calm}
 
-adverts_of_a_run_settle : (p : Plan) → IsFitRun p → AreFitSenders p → (ss ts : List Step) → steps_of_run p ≡ ss ++ ts → IsAdvertised p.quarter (first_world p) ss
+adverts_of_a_run_settle : (p : Plan) → IsFitRun p → AreFitSenders p → (ss ts : List Step) → steps_of_run p ≡ ss ++ ts → AreAdvertsSettled p.quarter (first_world p) ss
     → HasSettledAdverts p.quarter (moment p ss)
 adverts_of_a_run_settle p fit senders ss ts front is =
     let q : ℕ = p.quarter in

@@ -48,7 +48,7 @@ use Rattle.script_grammar.specs.Draft.{Draft, end_number, node_number, nothing, 
 use Rattle.script_grammar.specs.Grammar.{Follows, Leads}
 use Rattle.script_grammar.specs.Rules.{Keeps, KeepsAll, is_sender_at}
 use Rattle.script_grammar.specs.Values.{advert_value, drop_value, hop_values, send_value, senders_value, tree_hop_value, want_value}
-use Rattle.script_grammar.specs.declared.line.DropLine.{DropLine}
+use Rattle.script_grammar.specs.declared.line.SenderLine.{SenderLine}
 use Rattle.script_grammar.specs.declared.line.ScriptLine.{ScriptLine}
 use Rattle.script_grammar.specs.declared.line.ScriptLine.TheVariants as line
 use Rattle.script_grammar.specs.declared.line.QuitLine.{QuitLine}
@@ -256,7 +256,7 @@ module _ (d : Draft) (h : Standing d) (valid : IsValid (routing d)) (sending : S
       _ new.named new.few_sessions (new.few_senders s) in
       (call_stands (plan_of d).quarter (world_behind d) n (send_value l) d.locals (with_sender d.locals n s x) stands makes, is))
 
-  drops : (l : DropLine) → KeepsAll (Keeps d (line.Drop l)) → Standing (with_local d l.node (session_value l.session) (drop_value l)
+  drops : (l : SenderLine) → KeepsAll (Keeps d (line.Drop l)) → Standing (with_local d l.node (session_value l.session) (drop_value l)
       (without_sender d.locals (session_value l.session) (sender_value l.sender)))
   drops l rules =
       let n = node_number d l.node in
@@ -274,7 +274,7 @@ module _ (d : Draft) (h : Standing d) (valid : IsValid (routing d)) (sending : S
       let makes = drop_makes d.net.ends d.locals n s x sending.placed own (plan_of d).quarter (world_behind d) stands (y.0, y.1, node, session, sender) in
       (call_stands (plan_of d).quarter (world_behind d) n (drop_value l) d.locals (without_sender d.locals s x) stands makes, is))
 
-  advertises : (l : DropLine) → KeepsAll (Keeps d (line.Advert l)) → Standing (with_local d l.node (session_value l.session) (advert_value l) d.locals)
+  advertises : (l : SenderLine) → KeepsAll (Keeps d (line.Advert l)) → Standing (with_local d l.node (session_value l.session) (advert_value l) d.locals)
   advertises l rules =
       let n = node_number d l.node in
       let s = session_value l.session in

@@ -37,7 +37,7 @@ use Rattle.network_model.specs.DemandTexts.{demand_text, of_end}
 use Rattle.script_theorem.specs.Standing.{AskTheSame, TheSameIsDemanded}
 
 -- sets of the same members
-one_set : {K : Type 0} (o : Keys K) (xs ys : List K) → ((k : K) → In k xs → In k ys) → ((k : K) → In k ys → In k xs) → set_of {o = o} xs ≡ set_of {o = o} ys
+pub one_set : {K : Type 0} (o : Keys K) (xs ys : List K) → ((k : K) → In k xs → In k ys) → ((k : K) → In k ys → In k xs) → set_of {o = o} xs ≡ set_of {o = o} ys
 one_set o xs ys to from =
     same_set o (set_of {o = o} xs) (set_of {o = o} ys)
     (λ q. same_test (has (set_of {o = o} xs) q) (has (set_of {o = o} ys) q) (λ t. in_set_of o ys q (to q (set_of_in o xs q t))) (λ t. in_set_of o xs q (from q (set_of_in o ys q t))))
@@ -96,7 +96,7 @@ module _ (net : Net) (a b : Locals) (h : AskTheSame a b) where
     same_by_fuel zero k = refl
     same_by_fuel (suc n) k = (λ i. want_from st net a s k (λ j. same_by_fuel n j i)) ∙ same_step k (λ j. by_fuel (want_from st net b s) empty n j)
 
-    same_want : (k : LinkHop) → want st net a s k ≡ want st net b s k
+    pub same_want : (k : LinkHop) → want st net a s k ≡ want st net b s k
     unfolding want
     same_want k = same_by_fuel (rank net s.group k) k
 

@@ -14,8 +14,8 @@ use Rattle.script_theorem.specs.Writing.{OnlyWrite}
 abbrev pub to_advertise : ℕ → ℕ
 to_advertise long = 4 + 7 * long
 
-abbrev pub IsAdvertised : ℕ → World → List Step → Type 0
-IsAdvertised = EndsInCalm to_advertise
+abbrev pub AreAdvertsSettled : ℕ → World → List Step → Type 0
+AreAdvertsSettled = EndsInCalm to_advertise
 
 -- the text of the run: that of the steps before the `adverts` line, the advertisements that are demanded, and that of the steps behind it
 abbrev pub AppendsTheAdverts : Plan → List Step → List Step → Type 0
@@ -27,7 +27,7 @@ AppendsTheAdverts p ss ts =
 -- an `adverts` line at such a moment, or behind steps that only write after one, whether or not the demands fit
 abbrev pub SettlesToTheAdverts : Plan → Type 0
 SettlesToTheAdverts p =
-    (ss still ts : List Step) → steps_of_run p ≡ (ss ++ still) ++ Adverts ∷ ts → IsAdvertised p.quarter (first_world p) ss → OnlyWrite still → AppendsTheAdverts p (ss ++ still) ts
+    (ss still ts : List Step) → steps_of_run p ≡ (ss ++ still) ++ Adverts ∷ ts → AreAdvertsSettled p.quarter (first_world p) ss → OnlyWrite still → AppendsTheAdverts p (ss ++ still) ts
 
 -- in a run that is not crowded
 abbrev pub ASettledAdvertsLineIsDemanded : Type 0

@@ -8,7 +8,7 @@ use Rattle.network_model.specs.Runs.{Plan, first_world, is_crowded_run, run_text
 use Rattle.network_model.specs.Steps.{Adverts, Flags, Report, Step}
 use Rattle.settle_adverts.specs.Demanded.{advertised_senders, demanded_adverts}
 use Rattle.settle_network.specs.DemandedFlags.{demanded_flags}
-use Rattle.script_theorem.specs.AdvertReports.{IsAdvertised}
+use Rattle.script_theorem.specs.AdvertReports.{AreAdvertsSettled}
 use Rattle.script_theorem.specs.Demands.{moment}
 use Rattle.script_theorem.specs.Purged.{AppendsAtMostTheDemand, books_text}
 use Rattle.script_theorem.specs.Sessions.{AppendsTheSessions}
@@ -65,7 +65,7 @@ module _ (p : Plan) (text : List ℕ) where
   -- advertisements that are demanded, whether or not the demands fit
   abbrev pub HasTheAdverts : Type 0
   HasTheAdverts =
-      (ss still ts : List Step) → steps_of_run p ≡ (ss ++ still) ++ Adverts ∷ ts → IsAdvertised p.quarter (first_world p) ss → OnlyWrite still → HasWhole (ss ++ still) Adverts
+      (ss still ts : List Step) → steps_of_run p ≡ (ss ++ still) ++ Adverts ∷ ts → AreAdvertsSettled p.quarter (first_world p) ss → OnlyWrite still → HasWhole (ss ++ still) Adverts
       → GoesOnWith (ss ++ still) (demanded_adverts p.names (moment p (ss ++ still)).net (advertised_senders (moment p (ss ++ still))))
 
   pub record HasHealedReports : Type 0 where
