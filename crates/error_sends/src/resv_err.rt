@@ -89,7 +89,8 @@ pub fn pass_resv_err<O: Outbox>(
 // The errors that go on to the next hops of the reservations of the error's style.
 fn tell_by_style<O: Outbox>(tables: &Tables, up: &Upstream, message: &ResvErrMsg, out: &mut O)
     ensures { (n : State) → n.wild ≡ tables.now.wild.facts → n.fixed ≡ tables.now.fixed.facts → n.shared ≡ tables.now.shared.facts
-        → out.new ≡ fold O.posted out.old (errors_told tables.now.config up.now message.now message.now.blame.style (under sessions rests (table_in message.now.blame.style n) message.now.session).rows) }
+        → out.new ≡ fold O.posted out.old (errors_told tables.now.config up.now message.now message.now.blame.style
+        (under sessions rests (table_in message.now.blame.style n) message.now.session).rows) }
 {
     match message.blame.style {
         StyleKind::Wild => tell_errors(&tables.config, &tables.wild, up, message, out),

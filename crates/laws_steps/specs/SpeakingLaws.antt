@@ -35,7 +35,14 @@ pub record IsOfOffer (p : NodeConfig) (f : Facts) (s : Send) (m : PathMsg) : Typ
   pub source : IsLocalOffer f key offer ⊎ IsPathOffer f key offer
   pub iface : s.iface ≡ key.iface
   pub dst : s.dst ≡ key.session.group
-  pub is : m ≡ record { session = key.session; police = offer.local; hop = record { addr = own p key.iface; handle = 0 }; period = period p; sender = Some (key.sender, offer.tspec); adspec = told_at p key.iface offer }
+  pub is : m ≡ record {
+    session = key.session;
+    police = offer.local;
+    hop = record { addr = own p key.iface; handle = 0 };
+    period = period p;
+    sender = Some (key.sender, offer.tspec);
+    adspec = told_at p key.iface offer;
+  }
 
 pub record WhatAPathSentSays : Type 0 where
   pub says : (step : NodeStep) → Begins step → (s : Send) (m : PathMsg) → In s (sent_by step) → s.message ≡ message.Path m → IsOfOffer step.now (left_by step) s m

@@ -121,19 +121,24 @@ one_node = record {
 
 pub record FirstRun : Type 0 where
   pub text : run_text one_node
-      ≡ codes "end r1 held 900 of 1000\n239.1.1.1/17/5004 WF 10.0.9.9 400/400/inf/1/1500\n239.1.1.2/17/5004 WF 10.0.9.9 500/500/inf/1/1500\nend r1 held 400 of 1000\n239.1.1.1/17/5004 WF 10.0.9.9 400/400/inf/1/1500\nend r1 held 0 of 1000\n"
+      ≡ codes "end r1 held 900 of 1000\n239.1.1.1/17/5004 WF 10.0.9.9 400/400/inf/1/1500\n239.1.1.2/17/5004 WF 10.0.9.9 500/500/inf/1/1500\n"
+      ++ codes "end r1 held 400 of 1000\n239.1.1.1/17/5004 WF 10.0.9.9 400/400/inf/1/1500\nend r1 held 0 of 1000\n"
 
 -- the larger rate and not the sum, with flags
 pub record LargerRate : Type 0 where
   pub text : run_text (fork 10000 (sends ∷ wants 2 (flow 300 600 64 1500) ∷ wants 3 (flow 500 400 128 1000) ∷ Pass 6 ∷ Reports (Some 0) ∷ ReportsFlags ∷ []))
-      ≡ codes "end s1 held 500 of 10000\n239.1.1.1/17/5004 WF 10.0.1.1 500/600/inf/64/1500\nend s1 held 500 of 10000\n239.1.1.1/17/5004 WF 10.0.1.1 500/600/inf/64/1500 ---\nend r1 held 0 of 10000\nend r2 held 300 of 10000\n239.1.1.1/17/5004 WF 10.0.1.1 300/600/inf/64/1500 e-b\nend t1 held 0 of 10000\nend r3 held 500 of 10000\n239.1.1.1/17/5004 WF 10.0.1.1 500/400/inf/128/1000 e-b\nend u1 held 0 of 10000\n"
+      ≡ codes "end s1 held 500 of 10000\n239.1.1.1/17/5004 WF 10.0.1.1 500/600/inf/64/1500\n"
+      ++ codes "end s1 held 500 of 10000\n239.1.1.1/17/5004 WF 10.0.1.1 500/600/inf/64/1500 ---\n"
+      ++ codes "end r1 held 0 of 10000\nend r2 held 300 of 10000\n239.1.1.1/17/5004 WF 10.0.1.1 300/600/inf/64/1500 e-b\n"
+      ++ codes "end t1 held 0 of 10000\nend r3 held 500 of 10000\n239.1.1.1/17/5004 WF 10.0.1.1 500/400/inf/128/1000 e-b\nend u1 held 0 of 10000\n"
 
 -- a refused raise keeps the old reservation; a greedy receiver is blockaded; what is quit is torn down
 pub record Traced : Type 0 where
   pub raise : run_text (line 1000 (booked ++ wants 2 (flow 1001 2000 64 1500) ∷ Traces true ∷ Pass 4 ∷ Reports (Some 0) ∷ []))
       ≡ codes "r2 Resv taken\ns1 Resv answered 1/2\nr1 ResvErr taken\nt1 ResvErr taken\nend s1 held 1000 of 1000\n" ++ usual_entry
   pub greedy : run_text (fork 8 (sends ∷ wants 2 (flow 4 8 1 1500) ∷ wants 3 (flow 10 8 1 1500) ∷ Traces true ∷ Pass 6 ∷ Reports (Some 0) ∷ []))
-      ≡ codes "r1 Path taken\nt1 Path taken\nu1 Path taken\nr2 Resv taken\nr3 Resv taken\ns1 Resv taken\ns1 Resv answered 1/2\nr1 ResvErr taken\nu1 ResvErr taken\ns1 Resv taken\nend s1 held 4 of 8\n239.1.1.1/17/5004 WF 10.0.1.1 4/8/inf/1/1500\n"
+      ≡ codes "r1 Path taken\nt1 Path taken\nu1 Path taken\nr2 Resv taken\nr3 Resv taken\ns1 Resv taken\ns1 Resv answered 1/2\n"
+      ++ codes "r1 ResvErr taken\nu1 ResvErr taken\ns1 Resv taken\nend s1 held 4 of 8\n239.1.1.1/17/5004 WF 10.0.1.1 4/8/inf/1/1500\n"
   pub quit : run_text (line 10000 (booked ++ Traces true ∷ AtNode 2 (QuitAll session) ∷ Pass 2 ∷ Reports (Some 0) ∷ []))
       ≡ codes "r2 ResvTear taken\ns1 ResvTear taken\nend s1 held 0 of 10000\n"
   pub cleared : run_text (line 10000 (sends ∷ wants 2 usual ∷ Pass 2 ∷ ClearNode 1 ∷ Traces true ∷ Pass 2 ∷ [])) ≡ codes "r2 Resv answered 3/0\nt1 ResvErr taken\n"

@@ -105,7 +105,10 @@ abbrev seventeen_known : Facts
 seventeen_known = record no_facts {
   senders = put_in empty (session, record { addr = r1; port = 5004 }) usual;
   paths = with_rows empty (each
-      (λ i. ((session, record { addr = ip 10 0 9 i; port = 5004 }), record { iface = 0; hop = record { addr = s1; handle = 0 }; tspec = usual; police = false; adspec = None; dies = 100000 })) (range_with_len 1 16));
+      (λ i. (
+        (session, record { addr = ip 10 0 9 i; port = 5004 }),
+        record { iface = 0; hop = record { addr = s1; handle = 0 }; tspec = usual; police = false; adspec = None; dies = 100000 },
+      )) (range_with_len 1 16));
 }
 
 abbrev for_all : Outcome

@@ -97,7 +97,10 @@ pub record AdspecsGoOn : Type 0 where
 abbrev pub sixteen : Facts
 sixteen = record no_facts {
   paths = with_rows no_facts.paths (each
-      (λ port. ((session, record { addr = s1; port = port }), record { iface = 0; hop = record { addr = s1; handle = 0 }; tspec = usual; police = false; adspec = None; dies = 100000 })) (range_with_len 1 16));
+      (λ port. (
+        (session, record { addr = s1; port = port }),
+        record { iface = 0; hop = record { addr = s1; handle = 0 }; tspec = usual; police = false; adspec = None; dies = 100000 },
+      )) (range_with_len 1 16));
 }
 
 -- what is not for this node, or not by the tree, or without a sender, or one too many

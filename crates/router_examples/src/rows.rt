@@ -1,7 +1,8 @@
 //! The rows. Each holds by computing the rule.
 ghost use Rattle.router_examples.specs.BoundRows.{LivedIsWithinBounds};
 ghost use Rattle.router_examples.specs.EdgeRows.{SomeNamesLeave, SendersAreBlockaded, ErrorsTogether, TooManyNames, WantsConflict, HandlesGoBack, RefusalsArrive};
-ghost use Rattle.router_examples.specs.PathRows.{PathGoesOn, AdspecsAreKept, AdspecsGoOn, PathsDropped, PathsEnd, LocalSenders, LocalSendersAreAdvertised, PathsMove, FaultsAreAnswered, PathErrorsGoOn};
+ghost use Rattle.router_examples.specs.PathRows.{PathGoesOn, AdspecsAreKept, AdspecsGoOn, PathsDropped, PathsEnd, LocalSenders, LocalSendersAreAdvertised};
+ghost use Rattle.router_examples.specs.PathRows.{PathsMove, FaultsAreAnswered, PathErrorsGoOn};
 ghost use Rattle.router_examples.specs.ResvRows.{ResvGoesOn, RefusedRaiseKeepsTheOld, NoPathNoReservation, LeftOut, StylesMergeByTheirUnits, NextHopsMerge, TearsGoOn, GreedyIsBlockaded};
 ghost use Rattle.router_examples.specs.ResvRows.{BlockadedMerge, ErrorsGoOn, ConfirmationsComeBack, MarksWait, CallsAreRefused, FlagsAreByPaths};
 
