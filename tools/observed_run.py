@@ -349,6 +349,10 @@ def tool(name, usage, work):
     if words in (["-h"], ["--help"]):
         print(usage.strip())
         return 0
+    for stream, which, status in ((sys.stdin, "input", 2), (sys.stdout, "output", 4)):
+        if stream is None:
+            print(f"{name}: {which}: it is closed", file=sys.stderr)
+            return status
     try:
         for part in work(words):
             try:
