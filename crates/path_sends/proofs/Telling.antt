@@ -10,11 +10,13 @@ use Rattle.std.proofs.lemmas.List.Sums.{fold_push}
 use Rattle.std.proofs.lemmas.List.Elements.{filter-append}
 use Rattle.std.proofs.lemmas.List.{map-append}
 use Rattle.std.proofs.lemmas.List.FromFn.{map-range_with_len_more}
-use Rattle.adspec_path.proofs.Same.{itself as told_itself}
+use Rattle.adspec_path.proofs.Same.{adspec_told, itself as told_itself}
 use Rattle.adspec_path.specs.Same.{same_told}
 use Rattle.rsvp_base.proofs.Rows.{each_itself}
 use Rattle.rsvp_base.proofs.SetLaws.{and_made}
 use Rattle.rsvp_base.specs.declared.iface.Iface.{Iface}
+use Rattle.router_rules.specs.declared.advert.Advert.{Advert}
+use Rattle.router_rules.specs.declared.advert.Advert.TheVariants.{Begins, Passes, Silent}
 use Rattle.router_rules.specs.Inputs.{Send}
 use Rattle.router_rules.specs.NodeConfig.{NodeConfig, addr_of, is_out, outward, tree}
 use Rattle.router_rules.specs.Offers.{Offer, advert_by}
@@ -24,6 +26,7 @@ use Rattle.rsvp_base.specs.declared.session.Session.{Session}
 use Rattle.rsvp_base.specs.declared.session.Sender.{Sender}
 use Rattle.laws_sends.specs.Routes.{ways_out}
 use Rattle.std.proofs.lemmas.Nat.Bits.{bit_at-zero, bit_at-lt, bit_at_above, bit_at_and, bit_at_not}
+use Rattle.path_sends.specs.Offering.{same_source}
 use Rattle.path_sends.specs.Ways.{ways_but, ways_in}
 
 pub range_more : (n : ℕ) → range_with_len 0 (n + 1) ≡ range_with_len 0 n ++ n ∷ []
@@ -69,6 +72,18 @@ filter_same f g xs e = λ i. filter (λ x. e x i) xs
 
 pub all_said : (p : NodeConfig) (s : Session) (x : Sender) → filter (λ i. bit_at (ways_out (tree p s x)) i == 1) (range_with_len 0 (length p.ifaces)) ≡ outward p s x
 all_said p s x = filter_same _ _ (range_with_len 0 (length p.ifaces)) (λ i. out_same (tree p s x) i)
+
+-- what comes from the same source is the same
+pub source_told : (a b : Advert) → same_source a b ≡ true → a ≡ b
+source_told Silent Silent e = refl
+source_told Silent Begins e = absurd (cc)
+source_told Silent (Passes b) e = absurd (cc)
+source_told Begins Silent e = absurd (cc)
+source_told Begins Begins e = refl
+source_told Begins (Passes b) e = absurd (cc)
+source_told (Passes a) Silent e = absurd (cc)
+source_told (Passes a) Begins e = absurd (cc)
+source_told (Passes a) (Passes b) e = ap Passes (adspec_told a b e)
 
 -- an offer of the same flow that is told the same way is new at no interface
 pub not_new_again : (p : NodeConfig) (i : ℕ) (o old : Offer) → same_flow o.tspec old.tspec ≡ true → o.advert ≡ old.advert → is_new_offer p i o (Some old) ≡ false

@@ -6,7 +6,7 @@ ghost use Rattle.router_rules.specs.NodeConfig.{NodeConfig};
 ghost use Rattle.router_rules.specs.Offers.{advert_by, advert_of, own_advert, own_offer};
 ghost use Rattle.router_rules.specs.Sends.{is_new_offer, same_flow};
 ghost use Rattle.router_rules.specs.declared.advert.Advert.TheVariants.{Passes};
-ghost use Rattle.path_sends.specs.Offering.{as_offer, passed_offer};
+ghost use Rattle.path_sends.specs.Offering.{as_offer, is_offered_again, passed_offer, same_source};
 
 use adspec_path::{pass_on, same_adspec, same_told, start};
 use object_fields::Adspec;
@@ -55,9 +55,10 @@ impl Offered {
         }
     }
 
-    /// Whether this is what was offered before, so that it is new at no interface. False says nothing.
+    /// Whether this is what was offered before: the same flow, told from the same ADSPEC or none. So it is new at no interface.
     pub fn is_again(&self, before: &Option<Offered>) -> bool
-        ensures { result ≡ true → (p : NodeConfig) (i : ℕ) → is_new_offer p i (as_offer self.now) (option_map as_offer before.now) ≡ false }
+        ensures again { result ≡ is_offered_again (as_offer self.now) (option_map as_offer before.now) }
+        ensures old { result ≡ true → (p : NodeConfig) (i : ℕ) → is_new_offer p i (as_offer self.now) (option_map as_offer before.now) ≡ false }
     {
         let Some(old) = before else {
             return false;
@@ -85,9 +86,9 @@ pub fn is_same_flow(a: &Flow, b: &Flow) -> bool
     flow_merge::le(a, b) && flow_merge::le(b, a)
 }
 
-// Whether what is told comes from the same. False says nothing.
+// Whether what is told comes from the same.
 fn is_same_advert(a: &Advert, b: &Advert) -> bool
-    ensures { result ≡ true → a.now ≡ b.now }
+    ensures { result ≡ same_source a.now b.now }
 {
     match a {
         Advert::Silent => matches!(b, Advert::Silent),
@@ -98,7 +99,7 @@ fn is_same_advert(a: &Advert, b: &Advert) -> bool
 
 // Whether it is this ADSPEC that goes on.
 fn is_passed(kept: &Adspec, advert: &Advert) -> bool
-    ensures { result ≡ true → Passes kept.now ≡ advert.now }
+    ensures { result ≡ same_source (Passes kept.now) advert.now }
 {
     match advert {
         Advert::Silent => false,

@@ -20,7 +20,7 @@ returns-then-is_again g c =
     let o = as_offer c.in-Some.offered in
     let say : ℕ → Send = λ i. path_send p false (offer_key k i, o) in
     ap (λ is. fold g.O.Outbox.posted c.args.out.now (each say is))
-    (sym (none_pass (λ i. is_new_offer p i o before) (outward p k.0 k.1) (λ i. c.is_again.ensures c.if-is_again.true p i)))
+    (sym (none_pass (λ i. is_new_offer p i o before) (outward p k.0 k.1) (λ i. c.is_again.ensures.old c.if-is_again.true p i)))
     ∙ ap (λ w. fold g.O.Outbox.posted c.args.out.now (told_new p k before (option_map as_offer w))) (sym c.in-Some.is)
 
 pub returns : goal.returns
