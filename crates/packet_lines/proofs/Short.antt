@@ -12,7 +12,7 @@ pub early_short : (last : ℕ) → last < 2 ^ 64 → length (early_text last) �
 unfolding early_text
 early_short last small =
     let digits : length (decimal last) ≤ 20 = length-decimal-le 20 last (omega arith) (omega (arith, small)) small in
-    omega (arith, length-append (decimal last) (codes ", and none comes before it"), digits)
+    omega (arith, length-append (decimal last) (codes " microseconds, and none comes before it"), digits)
 
 -- all but a time that is too early, whose text names a number
 abbrev IsPlain : Blame → Type 0

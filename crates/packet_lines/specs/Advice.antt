@@ -74,10 +74,7 @@ number_of_word SizeForm = Some 1
 number_of_word SizeRange = Some 1
 
 unfoldable pub early_text : ℕ → List ℕ
-early_text last = codes "the packet before came at " ++ decimal last ++ codes ", and none comes before it"
-
-abbrev pub number_form : List ℕ
-number_form = codes "a number is 0, or 1 to 20 digits of which the first is not 0"
+early_text last = codes "the packet before came at " ++ decimal last ++ codes " microseconds, and none comes before it"
 
 abbrev pub wanted_text : Blame → List ℕ
 wanted_text Long = codes "a line has at most 2048 bytes"
@@ -87,11 +84,11 @@ wanted_text (FlowCount word) = codes "a flow line is: flow FLOW"
 wanted_text FlowForm = codes "a flow is r/b/p/m/M: five numbers, of which p may be inf"
 wanted_text FlowRange = codes
     "r and b are rates of at least 1, p is a rate or inf, m is from 1 to M, M at most 4294967295; a rate is below 70368744177664 and has no two set bits more than 23 places apart"
-wanted_text (PacketCount word) = codes "a packet line is: MICROS BYTES"
-wanted_text TimeForm = number_form
+wanted_text (PacketCount word) = codes "a packet line is: MICROSECONDS BYTES"
+wanted_text TimeForm = codes "microseconds, without a unit: a number is 0, or 1 to 20 digits of which the first is not 0"
 wanted_text TimeRange = codes "a time is at most 9223372036854775807 microseconds"
 wanted_text (Early last) = early_text last
-wanted_text SizeForm = number_form
+wanted_text SizeForm = codes "bytes, without a unit: a number is 0, or 1 to 20 digits of which the first is not 0"
 wanted_text SizeRange = codes "a packet has 1 to 65535 bytes"
 
 abbrev pub advice_text : List ℕ → Blame → List ℕ

@@ -18,7 +18,7 @@ flow_line flow = do
   w ← flow_of flow
   Some (Flow w)
 
--- MICROS BYTES
+-- MICROSECONDS BYTES
 unfoldable pub number_line : List ℕ → List ℕ → Option PacketLine
 number_line micros bytes = do
   at ← number_of micros

@@ -2,7 +2,7 @@
 ghost use Rattle.std.specs.Prelude.{◌≡◌, ◌≤◌, ◌<◌, ◌++◌, ℕ, List, OnErr, OnOk, length, vec_capacity};
 ghost use Rattle.script_words.specs.declared.fault.LineWhy.TheVariants as fault;
 ghost use Rattle.line_advice.specs.Blamed.{most_advice, most_wanted};
-ghost use Rattle.packet_lines.specs.Advice.{IsAdvice, IsAdviceFor, early_text, number_form, wanted_text};
+ghost use Rattle.packet_lines.specs.Advice.{IsAdvice, IsAdviceFor, early_text, wanted_text};
 ghost use Rattle.packet_lines.specs.Drafts.{Draft};
 ghost use Rattle.packet_lines.specs.Standings.{Stands};
 
@@ -96,24 +96,19 @@ fn put_wanted(out: &mut Vec<u8>, blame: Blame) -> Result<(), NoMemory>
             out,
             b"r and b are rates of at least 1, p is a rate or inf, m is from 1 to M, M at most 4294967295; a rate is below 70368744177664 and has no two set bits more than 23 places apart",
         ),
-        Blame::PacketCount { .. } => put(out, b"a packet line is: MICROS BYTES"),
-        Blame::TimeForm => put_number_form(out),
+        Blame::PacketCount { .. } => put(out, b"a packet line is: MICROSECONDS BYTES"),
+        Blame::TimeForm => put(
+            out,
+            b"microseconds, without a unit: a number is 0, or 1 to 20 digits of which the first is not 0",
+        ),
         Blame::TimeRange => put(out, b"a time is at most 9223372036854775807 microseconds"),
         Blame::Early { last } => put_early(out, last),
-        Blame::SizeForm => put_number_form(out),
+        Blame::SizeForm => put(
+            out,
+            b"bytes, without a unit: a number is 0, or 1 to 20 digits of which the first is not 0",
+        ),
         Blame::SizeRange => put(out, b"a packet has 1 to 65535 bytes"),
     }
-}
-
-fn put_number_form(out: &mut Vec<u8>) -> Result<(), NoMemory>
-    ensures text { OnOk result (out.new.items ≡ out.old.items ++ number_form) }
-    ensures full { OnErr result (vec_capacity out.old < length (out.old.items ++ number_form)) }
-    ensures kept { vec_capacity out.old ≤ vec_capacity out.new }
-{
-    put(
-        out,
-        b"a number is 0, or 1 to 20 digits of which the first is not 0",
-    )
 }
 
 #[tactic(auto, unfolding(crate::specs::Advice::early_text))]
@@ -124,5 +119,5 @@ fn put_early(out: &mut Vec<u8>, last: u64) -> Result<(), NoMemory>
 {
     put(out, b"the packet before came at ")?;
     put_number(out, last)?;
-    put(out, b", and none comes before it")
+    put(out, b" microseconds, and none comes before it")
 }

@@ -12,6 +12,6 @@ pub enum PacketLine {
     Skipped,
     /// `flow FLOW`.
     Flow(FlowWord),
-    /// `MICROS BYTES`: when a packet came, in microseconds, and its size.
+    /// `MICROSECONDS BYTES`: when a packet came, in microseconds, and its size.
     Packet { at: u128, size: u128 },
 }
