@@ -1,8 +1,10 @@
 //! The line of text that says what is wrong with a line of digits.
-ghost use Rattle.std.specs.Prelude.{◌≡◌, ◌≤◌, ◌<◌, ◌++◌, OnErr, OnOk, Some, length, vec_capacity};
+ghost use Rattle.std.specs.Prelude.{◌≡◌, ◌≤◌, ◌<◌, ◌++◌, OnErr, OnOk, Some, length, nat_eq, vec_capacity};
+ghost use Rattle.std.specs.List.{starts_with};
 ghost use Rattle.hex.specs.Hex.{is_hex_digit};
 ghost use Rattle.line_advice.specs.Blamed.{most_advice};
-ghost use Rattle.message_show.specs.ShowAdvice.{IsDigitsAdvice, digits_advice, digits_text, strange_digit};
+ghost use Rattle.value_texts.specs.Quotes.{order_mark};
+ghost use Rattle.message_show.specs.ShowAdvice.{IsDigitsAdvice, bytes_text, digits_advice, digits_text, mark_text, strange_digit};
 
 use rsvp_base::NoMemory;
 use script_words::LineWhy;
@@ -28,8 +30,38 @@ fn put_told(out: &mut Vec<u8>, line: &[u8], why: LineWhy) -> Result<(), NoMemory
 {
     match why {
         LineWhy::Limit => put(out, b"  a line has at most 8194 digits"),
-        _ => put_digit(out, strange_digit(line)),
+        _ => put_of_bytes(out, line),
     }
+}
+
+// Of a line whose bytes are not right.
+fn put_of_bytes(out: &mut Vec<u8>, line: &[u8]) -> Result<(), NoMemory>
+    ensures text { OnOk result (out.new.items ≡ out.old.items ++ bytes_text line.now) }
+    ensures full { OnErr result (vec_capacity out.old < length (out.old.items ++ bytes_text line.now)) }
+    ensures few { length (bytes_text line.now) ≤ most_advice }
+{
+    if has_mark(line) {
+        return put_mark(out);
+    }
+    put_digit(out, strange_digit(line))
+}
+
+// Whether a line begins with a byte order mark.
+fn has_mark(line: &[u8]) -> bool
+    ensures { result ≡ starts_with nat_eq line.now order_mark }
+{
+    line.starts_with(b"\xef\xbb\xbf")
+}
+
+#[tactic(auto, using(crate::proofs::Short::mark_short), unfolding(crate::specs::ShowAdvice::mark_text))]
+fn put_mark(out: &mut Vec<u8>) -> Result<(), NoMemory>
+    ensures text { OnOk result (out.new.items ≡ out.old.items ++ mark_text) }
+    ensures full { OnErr result (vec_capacity out.old < length (out.old.items ++ mark_text)) }
+    ensures few { length mark_text ≤ most_advice }
+{
+    put(out, b"  column 1, ")?;
+    put_quoted(out, b"\xef\xbb\xbf")?;
+    put(out, b": a byte order mark: save the file without it")
 }
 
 #[tactic(auto, using(crate::proofs::Short::even_short, crate::proofs::Short::digit_short), unfolding(crate::specs::ShowAdvice::digits_text))]
@@ -39,7 +71,10 @@ fn put_digit(out: &mut Vec<u8>, strange: Option<(usize, u8)>) -> Result<(), NoMe
     ensures few { length (digits_text strange) ≤ most_advice }
 {
     match strange {
-        None => put(out, b"  a line is an even number of hexadecimal digits"),
+        None => put(
+            out,
+            b"  a line is an even number of hexadecimal digits without spaces",
+        ),
         Some((column, c)) => put_strange_digit(out, column, c),
     }
 }
@@ -54,7 +89,10 @@ fn put_strange_digit(out: &mut Vec<u8>, column: usize, c: u8) -> Result<(), NoMe
     put(out, b", ")?;
     put_quoted(out, &[c])?;
     put(out, b": ")?;
-    put(out, b"a line is an even number of hexadecimal digits")?;
+    put(
+        out,
+        b"a line is an even number of hexadecimal digits without spaces",
+    )?;
     put_strange(out, &[c])
 }
 
