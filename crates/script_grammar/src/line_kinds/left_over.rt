@@ -52,33 +52,45 @@ pub fn stale_resv_line(alloc: Global, words: &[&[u8]]) -> Result<ScriptLine, Unr
     ensures { Reads result (stale_resv_line (map (λ w. w.now) words.now)) }
 {
     match words {
-        [end, session, style, addr, senders, flow, left] => {
-            resv(alloc, end, session, style, addr, senders, flow, left)
-        }
+        [end, session, kind, addr, senders, flow, left] => resv(
+            alloc,
+            ResvWords {
+                end,
+                session,
+                kind,
+                addr,
+                senders,
+                flow,
+                left,
+            },
+        ),
         _ => Err(Unread::Word),
     }
 }
 
+// The words of a line behind `stale-resv`.
+#[derive(Drop)]
+struct ResvWords<'a> {
+    end: &'a [u8],
+    session: &'a [u8],
+    kind: &'a [u8],
+    addr: &'a [u8],
+    senders: &'a [u8],
+    flow: &'a [u8],
+    left: &'a [u8],
+}
+
 #[tactic(auto, unfolding(crate::specs::LineKinds::resv_of))]
-fn resv(
-    alloc: Global,
-    end: &[u8],
-    session: &[u8],
-    kind: &[u8],
-    addr: &[u8],
-    senders: &[u8],
-    flow: &[u8],
-    left: &[u8],
-) -> Result<ScriptLine, Unread>
-    ensures { Reads result (resv_of end.now session.now kind.now addr.now senders.now flow.now left.now) }
+fn resv(alloc: Global, words: ResvWords) -> Result<ScriptLine, Unread>
+    ensures { Reads result (resv_of words.entry.end.now words.entry.session.now words.entry.kind.now words.entry.addr.now words.entry.senders.now words.entry.flow.now words.entry.left.now) }
 {
-    let end = EndName::of(end).ok_or(Unread::Word)?;
-    let session = SessionWord::of(session).ok_or(Unread::Word)?;
-    let style = style(kind).ok_or(Unread::Word)?;
-    let next = DottedQuad::of(addr).ok_or(Unread::Word)?;
-    let senders = Listed::of(stale_senders(alloc, style, senders)?);
-    let flow = FlowWord::of(flow).ok_or(Unread::Word)?;
-    let left = number(left).ok_or(Unread::Word)?;
+    let end = EndName::of(words.end).ok_or(Unread::Word)?;
+    let session = SessionWord::of(words.session).ok_or(Unread::Word)?;
+    let style = style(words.kind).ok_or(Unread::Word)?;
+    let next = DottedQuad::of(words.addr).ok_or(Unread::Word)?;
+    let senders = Listed::of(stale_senders(alloc, style, words.senders)?);
+    let flow = FlowWord::of(words.flow).ok_or(Unread::Word)?;
+    let left = number(words.left).ok_or(Unread::Word)?;
     Ok(ScriptLine::StaleResv(StaleResvLine {
         end,
         session,
