@@ -22,8 +22,10 @@ pub fn form_text(field: Field) -> &'static [u8]
         Field::Name =>
             b"a name is 1 to 16 lower-case letters, digits and _, beginning with a letter",
         Field::Host => b"an address is four numbers up to 255 joined by dots",
-        Field::Capacity => b"a number is 0, or 1 to 20 digits of which the first is not 0",
-        Field::Mtu => b"a number is 0, or 1 to 20 digits of which the first is not 0",
+        Field::Capacity =>
+            b"bytes per second, without a unit or a letter for thousands: a number is 0, or 1 to 20 digits of which the first is not 0",
+        Field::Mtu =>
+            b"bytes, without a unit: a number is 0, or 1 to 20 digits of which the first is not 0",
         Field::Latency =>
             b"microseconds, without a unit: a number is 0, or 1 to 20 digits of which the first is not 0",
         Field::Group => b"an address is four numbers up to 255 joined by dots",
@@ -60,22 +62,25 @@ pub fn put_range(out: &mut Vec<u8>, period: u32, field: Field) -> Result<(), NoM
 {
     match field {
         Field::Left => {
-            put(out, b"a number from 1 to ")?;
+            put(out, b"a number of milliseconds, from 1 to ")?;
             put_number(out, 21 * (u64::from(period) / 4))
         }
         Field::WallLeft => {
-            put(out, b"a number from 1 to ")?;
+            put(out, b"a number of milliseconds, from 1 to ")?;
             put_number(out, 4 * u64::from(period))
         }
-        Field::Period => put(out, b"a number from 1000 to 60000 that 4 divides"),
+        Field::Period => put(
+            out,
+            b"a number of milliseconds, from 1000 to 60000, that 4 divides",
+        ),
         Field::Seed => put(out, b"a number up to 18446744073709551615"),
         Field::Host => put(
             out,
             b"each part of an address is at most 255, and an end has neither 0.0.0.0 nor a group, 224.0.0.0 to 239.255.255.255",
         ),
-        Field::Capacity => put(out, b"a number up to 70368744177663"),
-        Field::Mtu => put(out, b"a number from 1 to 65535"),
-        Field::Latency => put(out, b"a number up to 4294967295"),
+        Field::Capacity => put(out, b"a number of bytes per second, up to 70368744177663"),
+        Field::Mtu => put(out, b"a number of bytes, from 1 to 65535"),
+        Field::Latency => put(out, b"a number of microseconds, up to 4294967295"),
         Field::Group => put(
             out,
             b"a group is an address from 224.0.0.0 to 239.255.255.255",
@@ -96,7 +101,7 @@ pub fn put_range(out: &mut Vec<u8>, period: u32, field: Field) -> Result<(), NoM
         Field::Addresses => put(out, b"each part of an address is at most 255"),
         Field::Flow => put(out, form_text(field)),
         Field::Sub => put(out, b"2 for the rate, 3 for the packet size"),
-        Field::Wait => put(out, b"a number from 1 to 3600000"),
+        Field::Wait => put(out, b"a number of milliseconds, from 1 to 3600000"),
         Field::Passes => put(out, b"a number from 1 to 1000"),
         Field::Rounds => put(out, b"a number from 1 to 10000"),
         Field::Place => put(out, b"a number from 1 to 8192"),
