@@ -5,6 +5,7 @@ use Rattle.rsvp_base.specs.declared.addr.Addr.{Addr}
 use Rattle.rsvp_base.specs.declared.part.Part.{Part}
 use Rattle.rsvp_base.specs.declared.session.Session.{Session}
 use Rattle.rsvp_base.specs.declared.style.StyleKind.{StyleKind}
+use Rattle.rsvp_base.specs.Members.{In}
 use Rattle.rsvp_base.specs.Table.{get}
 use Rattle.rsvp_messages.specs.declared.message.Message.TheVariants as message
 use Rattle.rsvp_messages.specs.declared.message.ResvMsg.{ResvMsg}
@@ -16,6 +17,7 @@ use Rattle.laws_inputs.proofs.Framing.{act_paths, act_senders}
 use Rattle.laws_inputs.proofs.Wholes.{resvs_in_steps}
 use Rattle.laws_inputs.proofs.Leaving.{as_it_was}
 use Rattle.laws_inputs.proofs.Ruling.{rule_in_parts}
+use Rattle.laws_inputs.proofs.Tests.{addr_told}
 use Rattle.router_rules.specs.Act.{act, act_spelt, is_mine}
 use Rattle.router_rules.specs.Asking.{Taking, act_resv, key_at, matched, resv_state}
 use Rattle.router_rules.specs.Bounds.{IsWithinBounds}
@@ -36,9 +38,9 @@ use Rattle.network_model.specs.Steps.{Step, step}
 use Rattle.network_model.specs.Worlds.{Item, World}
 use Rattle.network_model.proofs.Changing.{a_delivery_changes_one_node}
 use Rattle.laws_network.proofs.Known.{of_some}
-use Rattle.laws_safety.specs.Refusals.{ARefusedResvChangesNoReservation, AUnitThatPassesIsBooked, AnUntakenUnitChangesNothing, IsRefusedAlone, IsRefusedWhole, IsResvAt, IsUntaken, Passes}
-use Rattle.laws_safety.specs.Refusals.{asker, key_of}
-use Rattle.laws_safety.proofs.Units.{booked, refused_alone, refused_whole, source}
+use Rattle.laws_safety.specs.Refusals.{ARefusedResvChangesNoReservation, AResvChangesWhatItTakesAlone, AUnitThatPassesIsBooked, AnUntakenUnitChangesNothing}
+use Rattle.laws_safety.specs.Refusals.{IsNoPlaceOf, IsRefusedWhole, IsResvAt, IsUntaken, Passes, asker, key_of}
+use Rattle.laws_safety.proofs.Units.{booked, refused_whole, source, taken_alone, untaken_unit}
 
 not_both : (a b : Bool) → a ≡ b → (a && not b) ≡ false
 not_both true b e = ap not (sym e)
@@ -83,13 +85,32 @@ module _ (p : NodeConfig) (c e : ℕ) (dst : Addr) (m : ResvMsg) (f : Facts) (wi
   untaken_by : (mine : Bool) (u : AskedUnit) → IsUntaken p c e m f u → get (table_by mine) (key_at (asker p c e m f) u.unit) ≡ get (resvs_of (ask_style m.ask) f) (key_at (asker p c e m f) u.unit)
   untaken_by false u h = refl
   untaken_by true u h =
-      ap (λ (t : Resvs). get t (key_at (asker p c e m f) u.unit)) (resvs_in_steps.table p c e m f)
-      ∙ ⊎_elim (λ (w : IsRefusedWhole p c e m f). ap (λ (t : Resvs). get t (key_at (asker p c e m f) u.unit)) (refused_whole p c e m f w))
-      (λ (a : IsRefusedAlone p c e m f u). refused_alone p c e m f u a) h.1
+      ap (λ (t : Resvs). get t (key_at (asker p c e m f) u.unit)) (resvs_in_steps.table p c e m f) ∙ untaken_unit p c e m f u h
 
   pub untaken : (u : AskedUnit) → IsUntaken p c e m f u → get (resvs_of (ask_style m.ask) (facts_then p p c input f)) (key_at (asker p c e m f) u.unit)
       ≡ get (resvs_of (ask_style m.ask) f) (key_at (asker p c e m f) u.unit)
   untaken u h = ap (λ (ts : ResvTables). get (resvs_of (ask_style m.ask) (record f { resvs = ts })) (key_at (asker p c e m f) u.unit)) left ∙ untaken_by (is_mine p e dst (message.Resv m)) u h
+
+  alone_by : (mine : Bool) (st : StyleKind) (k : LineKey)
+      → ((u : AskedUnit) → In u (asked_units m.ask) → st ≡ ask_style m.ask → k ≡ key_at (asker p c e m f) u.unit → mine ≡ true → IsUntaken p c e m f u)
+      → get (resvs_of st (act_spelt p c e (message.Resv m) mine f).facts) k ≡ get (resvs_of st f) k
+  alone_by false st k h = refl
+  alone_by true st k h =
+      ⊎_elim
+      (λ (same : st ≡ ask_style m.ask).
+      ap (λ (z : StyleKind). get (resvs_of z (act_resv p c e m f).facts) k) same
+      ∙ ap (λ (t : Resvs). get t k) (resvs_in_steps.table p c e m f)
+      ∙ taken_alone p c e m f k (λ u i at. h u i same at refl)
+      ∙ ap (λ (z : StyleKind). get (resvs_of z f) k) (sym same))
+      (λ (other : st ≡ ask_style m.ask → ⊥). ap (λ (t : Resvs). get t k) (resvs_in_steps.others p c e m f st other))
+      (style_same st (ask_style m.ask))
+
+  pub alone : (st : StyleKind) (k : LineKey)
+      → ((u : AskedUnit) → In u (asked_units m.ask) → st ≡ ask_style m.ask → k ≡ key_at (asker p c e m f) u.unit → dst ≡ own p e → IsUntaken p c e m f u)
+      → get (resvs_of st (facts_then p p c input f)) k ≡ get (resvs_of st f) k
+  alone st k h =
+      ap (λ (ts : ResvTables). get (resvs_of st (record f { resvs = ts })) k) left
+      ∙ alone_by (is_mine p e dst (message.Resv m)) st k (λ u i same at mine. h u i same at (addr_told dst (own p e) mine))
 
   refused_by : (mine : Bool) → IsRefusedWhole p c e m f → (act_spelt p c e (message.Resv m) mine f).facts.resvs ≡ f.resvs
   refused_by false h = refl
@@ -126,6 +147,9 @@ module _ (q : ℕ) (s : Step) (w : World) (bounds : AreBounds q w) (y : Item) (m
   untaken_here : (u : AskedUnit) → IsUntaken p w.clock on m f u → get (resvs_of (ask_style m.ask) g) (key_of w y m u) ≡ get (resvs_of (ask_style m.ask) f) (key_of w y m u)
   untaken_here u h = subst (λ (z : Facts). get (resvs_of (ask_style m.ask) z) (key_of w y m u) ≡ get (resvs_of (ask_style m.ask) f) (key_of w y m u)) ruled (untaken p w.clock on y.dst m f within u h)
 
+  alone_here : (st : StyleKind) (k : LineKey) → IsNoPlaceOf q w y m e f st k → get (resvs_of st g) k ≡ get (resvs_of st f) k
+  alone_here st k h = subst (λ (z : Facts). get (resvs_of st z) k ≡ get (resvs_of st f) k) ruled (alone p w.clock on y.dst m f within st k h)
+
   refused_here : IsRefusedWhole p w.clock on m f → g.resvs ≡ f.resvs
   refused_here h = subst (λ (z : Facts). z.resvs ≡ f.resvs) ruled (refused p w.clock on y.dst m f within h)
 
@@ -137,6 +161,9 @@ module _ (q : ℕ) (s : Step) (w : World) (bounds : AreBounds q w) (y : Item) (m
 
 pub an_untaken_unit : (q : ℕ) (s : Step) (w : World) → AreBounds q w → AnUntakenUnitChangesNothing q s w
 an_untaken_unit q s w bounds y m e f g u at h = untaken_here q s w bounds y m e f g at u h
+
+pub a_resv_alone : (q : ℕ) (s : Step) (w : World) → AreBounds q w → AResvChangesWhatItTakesAlone q s w
+a_resv_alone q s w bounds y m e f g st k at h = alone_here q s w bounds y m e f g at st k h
 
 pub a_refused_resv : (q : ℕ) (s : Step) (w : World) → AreBounds q w → ARefusedResvChangesNoReservation q s w
 a_refused_resv q s w bounds y m e f g at h = refused_here q s w bounds y m e f g at h

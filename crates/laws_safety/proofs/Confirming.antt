@@ -4,15 +4,17 @@ use Rattle.std.specs.Prelude.{slice_get, ◌++◌, ◌==◌, map as each}
 use Rattle.rsvp_base.specs.declared.addr.Addr.{Addr}
 use Rattle.rsvp_base.specs.declared.part.Part.{Part}
 use Rattle.rsvp_base.specs.declared.style.StyleKind.{StyleKind}
+use Rattle.rsvp_base.specs.declared.style.StyleKind.TheVariants.{Wild}
 use Rattle.rsvp_base.specs.declared.style.Unit.{Unit as UnitOf}
 use Rattle.rsvp_base.specs.declared.style.Unit.TheVariants.{One}
 use Rattle.rsvp_base.specs.Members.{In}
-use Rattle.rsvp_base.specs.Orders.{Names, entry_keys}
-use Rattle.rsvp_base.specs.Sets.{IsWithin, is_none}
+use Rattle.rsvp_base.specs.Orders.{Names, entry_keys, senders}
+use Rattle.rsvp_base.specs.Sets.{IsWithin, cut, is_none}
 use Rattle.rsvp_base.specs.Table.{get, kept}
 use Rattle.rsvp_base.specs.TokenBucket.{TokenBucket}
 use Rattle.rsvp_base.proofs.Fronts.{got_in}
 use Rattle.rsvp_base.proofs.Members.{in_append, in_each, in_right, to_filter}
+use Rattle.rsvp_base.proofs.SetLaws.{cut_within}
 use Rattle.rsvp_messages.specs.declared.ask.Ask.{Ask}
 use Rattle.rsvp_messages.specs.declared.ask.Ask.TheVariants as ask
 use Rattle.rsvp_messages.specs.declared.message.Message.{Message}
@@ -20,7 +22,7 @@ use Rattle.rsvp_messages.specs.declared.message.Message.TheVariants as message
 use Rattle.rsvp_messages.specs.declared.message.ResvConfMsg.{ResvConfMsg}
 use Rattle.rsvp_messages.specs.declared.message.ResvMsg.{ResvMsg}
 use Rattle.rsvp_messages.specs.Proper.{IsProperAsk}
-use Rattle.rsvp_messages.specs.Units.{AskedUnit, ask_style, asked_units}
+use Rattle.rsvp_messages.specs.Units.{AskedUnit, ask_style, asked_units, fixed_unit, only}
 use Rattle.style_rules.specs.CutLaws.{made_named, made_of}
 use Rattle.style_rules.specs.Lines.{Line, LineKey, at_end, entry_key}
 use Rattle.style_rules.specs.Parts.{IsPartAtMost, has_name}
@@ -107,6 +109,32 @@ same_style : (a : Ask) → ask_style (without_scope a) ≡ ask_style a
 same_style (ask.Wild scope flow) = refl
 same_style (ask.Fixed list) = refl
 same_style (ask.Shared part) = refl
+
+-- ---- who is listed
+-- without its SCOPE a wildcard one lists nobody
+not_wild : (a : Ask) (u : AskedUnit) → In u (asked_units (without_scope a)) → (listed : Names) → u.names ≡ Some listed → ask_style a ≡ Wild → ⊥
+not_wild (ask.Fixed list) u i listed n e = absurd (cc)
+not_wild (ask.Shared part) u i listed n e = absurd (cc)
+not_wild (ask.Wild scope flow) u i listed n e =
+    ⊎_elim
+    (λ (is : u ≡ record { unit = One; names = None; flow = flow }).
+    let no : ◌≡◌ {A = Option Names} None (Some listed) = sym (ap (λ (z : AskedUnit). z.names) is) ∙ n in absurd (cc))
+    (λ (no : ⊥). no) i
+
+-- and each other one lists senders
+lists : (a : Ask) (u : AskedUnit) → In u (asked_units a) → (ask_style a ≡ Wild → ⊥) → (all : Names) × (u.names ≡ Some all)
+lists (ask.Wild scope flow) u i other = absurd (other refl)
+lists (ask.Fixed list) u i other = let r = in_each fixed_unit u list.rows i in (only r.0.0, ap (λ (z : AskedUnit). z.names) r.2)
+lists (ask.Shared part) u i other =
+    ⊎_elim (λ (is : u ≡ record { unit = One; names = Some part.senders; flow = part.flow }). (part.senders, ap (λ (z : AskedUnit). z.names) is)) (λ (no : ⊥). absurd no) i
+
+-- so those of them that match are among them
+listed_of : (a : Ask) (unit : AskedUnit) → In unit (asked_units a) → (ask_style a ≡ Wild → ⊥) → (all listed : Names) → listed ≡ names_that_match unit.names all
+    → (names : Names) × (unit.names ≡ Some names) × IsWithin listed names
+listed_of a unit i other all listed is =
+    let l = lists a unit i other in
+    let those : listed ≡ cut l.0 all = is ∙ ap (λ (z : Option Names). names_that_match z all) l.1 in
+    (l.0, l.1, subst (λ (z : Names). IsWithin z l.0) (sym those) (cut_within senders l.0 all))
 
 -- ---- what is taken of a Resv
 module _ (p : NodeConfig) (c e : ℕ) (m : ResvMsg) (f : Facts) where
@@ -326,7 +354,7 @@ module _ (q : ℕ) (s : Step) (w : World) (bounds : AreBounds q w) (y : Item) (r
         session = session;
         style = style;
         wish = wish;
-        asked = λ u i. asked u (unit_of u i);
+        asked = λ u i. asked u (in_taken u i);
         here = here;
         held = λ u i. held u (unit_of u i);
       }
@@ -334,22 +362,32 @@ module _ (q : ℕ) (s : Step) (w : World) (bounds : AreBounds q w) (y : Item) (r
       style : ask_style m.ask ≡ st
       style = ap ask_style says ∙ same_style taken ∙ style_told st (taking p w.clock on r f).taken taken what
 
+      in_taken : (u : AskedUnit) → In u (asked_units m.ask) → In u (asked_units (without_scope taken))
+      in_taken u i = subst (λ (z : Ask). In u (asked_units z)) says i
+
       unit_of : (u : AskedUnit) → In u (asked_units m.ask) → IsUnitOf taken u
-      unit_of u i = with_scope taken u (subst (λ (z : Ask). In u (asked_units z)) says i)
+      unit_of u i = with_scope taken u (in_taken u i)
 
       -- with the names and the flow of its part
       part_of_unit : (u : AskedUnit) (x : IsUnitOf taken u) → IsAskedOf (taking p w.clock on r f).taken x.unit
       part_of_unit u x = (asks_of_parts.units st (taking p w.clock on r f).taken taken x.unit (of_style p w.clock on r f proper) what).0 x.asks
 
-      asked : (u : AskedUnit) → IsUnitOf taken u → IsAskedUnit r u
-      asked u x =
+      asked : (u : AskedUnit) → In u (asked_units (without_scope taken)) → IsAskedUnit r u
+      asked u i =
+          let x = with_scope taken u i in
           let a = part_of_unit u x in
           let t = took p w.clock on r f x.unit.unit a.part a.there in
+          let asks = asked_for p w.clock on r f x.unit.unit a.part t in
+          let all : Names = matched p f (asker_of p w.clock on r) in
+          let made = made_of (names_that_match t.taken.unit.names all) t.taken.unit.flow a.part t.taken.tried.some in
           record {
             unit = t.taken.unit;
-            asks = asked_for p w.clock on r f x.unit.unit a.part t;
+            asks = asks;
             same = x.same ∙ t.taken.key;
-            flow = x.flow ∙ a.flow ∙ (made_of (names_that_match t.taken.unit.names (matched p f (asker_of p w.clock on r))) t.taken.unit.flow a.part t.taken.tried.some).flow;
+            names = λ listed n.
+                listed_of r.ask t.taken.unit asks (λ wild. not_wild taken u i listed n (style_told st (taking p w.clock on r f).taken taken what ∙ wild)) all listed
+                (of_some listed a.part.senders (sym (x.names listed n) ∙ a.names) ∙ made.senders);
+            flow = x.flow ∙ a.flow ∙ made.flow;
           }
 
       held : (u : AskedUnit) → IsUnitOf taken u → IsUnitHeld (book g on) m.session (ask_style m.ask) u

@@ -1,6 +1,8 @@
--- What a unit of a Resv leaves under its own key: nothing of it changes where it is not taken, and it stands where it is.
+-- What the units of a Resv leave: under its own key nothing changes where a unit is not taken, and it stands where it is; nor does
+-- anything under another key.
 use Rattle.std.proofs.Common.{◌≡◌, ℕ, List, [], ◌∷◌, Bool, true, false, Option, None, Some, ◌⊎◌, inl, inr, ⊎_elim, refl, sym, ap, subst, ◌∙◌}
 use Rattle.std.specs.Prelude.{◌++◌, map as each}
+use Rattle.std.specs.Ordering.{eq_by_cmp}
 use Rattle.rsvp_base.specs.declared.part.Part.{Part}
 use Rattle.rsvp_base.specs.declared.session.Sender.{Sender}
 use Rattle.rsvp_base.specs.declared.style.StyleKind.{StyleKind}
@@ -12,11 +14,12 @@ use Rattle.rsvp_base.specs.Sets.{is_none}
 use Rattle.rsvp_base.specs.Table.{get}
 use Rattle.rsvp_base.specs.TokenBucket.{TokenBucket}
 use Rattle.rsvp_base.proofs.Members.{in_each}
+use Rattle.rsvp_base.proofs.Tables.{either, tied_same, tied_self}
 use Rattle.rsvp_messages.specs.declared.ask.Ask.{Ask}
 use Rattle.rsvp_messages.specs.declared.ask.Ask.TheVariants as ask
 use Rattle.rsvp_messages.specs.declared.message.ResvMsg.{ResvMsg}
 use Rattle.rsvp_messages.specs.Units.{AskedUnit, ask_style, asked_units, fixed_unit}
-use Rattle.style_rules.specs.Lines.{LineKey}
+use Rattle.style_rules.specs.Lines.{LineKey, line_keys}
 use Rattle.tree_model.specs.Chains.{NoRepeats}
 use Rattle.laws_network.proofs.Hosts.{once_keys}
 use Rattle.laws_inputs.specs.AskLaws.{IsUnitAt, IsOfUnit}
@@ -26,7 +29,7 @@ use Rattle.router_rules.specs.Asking.{Asker, Taking, key_at, matched, nothing_ta
 use Rattle.router_rules.specs.Facts.{Facts, ResvState, Resvs, resvs_of}
 use Rattle.router_rules.specs.Known.{known}
 use Rattle.router_rules.specs.NodeConfig.{NodeConfig}
-use Rattle.laws_safety.specs.Refusals.{HasNoPlace, IsNotTaken, IsRefusedAlone, IsRefusedWhole, Passes, asker}
+use Rattle.laws_safety.specs.Refusals.{HasNoPlace, IsNotTaken, IsRefusedAlone, IsRefusedWhole, IsUntaken, Passes, asker}
 
 -- ---- each unit stands once in a Resv
 of_once : (xs : List Sender) → NoRepeats xs → NoRepeats (each Of xs)
@@ -60,6 +63,20 @@ apart (y ∷ front) u back h v i same =
     mine : (xs : List AskedUnit) → In u.unit (each (λ (x : AskedUnit). x.unit) (xs ++ u ∷ back))
     mine [] = inl refl
     mine (x ∷ xs) = inr (mine xs)
+
+-- ---- a unit of the list has the key, or none has
+pub find_unit : (key_in : UnitOf → LineKey) (us : List AskedUnit) (k : LineKey) → ((b : AskedUnit) × In b us × (k ≡ key_in b.unit)) ⊎ ((b : AskedUnit) → In b us → k ≡ key_in b.unit → ⊥)
+find_unit key_in [] k = inr (λ b i e. i)
+find_unit key_in (b ∷ bs) k =
+    either (eq_by_cmp line_keys.cmp k (key_in b.unit)) (λ tied. inl (b, inl refl, tied_same line_keys k (key_in b.unit) tied))
+    (λ apart.
+    ⊎_elim (λ (some : (c : AskedUnit) × In c bs × (k ≡ key_in c.unit)). inl (some.0, inr some.1, some.2))
+    (λ (none : (c : AskedUnit) → In c bs → k ≡ key_in c.unit → ⊥). inr (λ c i e.
+    ⊎_elim
+    (λ (is : c ≡ b).
+    let bad : true ≡ false = sym (ap (λ (z : LineKey). eq_by_cmp line_keys.cmp k z) (sym (e ∙ ap (λ (z : AskedUnit). key_in z.unit) is)) ∙ tied_self line_keys k) ∙ apart in
+    cc)
+    (λ (j : In c bs). none c j e) i)) (find_unit key_in bs k))
 
 module _ (p : NodeConfig) (c e : ℕ) (m : ResvMsg) (f : Facts) where
   abbrev o : Asker
@@ -119,6 +136,29 @@ module _ (p : NodeConfig) (c e : ℕ) (m : ResvMsg) (f : Facts) where
       by true other = refl
       by false (Some x) = refl
       by false None = behind u h.before h.at ∙ not_taken u h.before h.at h.not_taken ∙ ahead u h.before h.at
+
+  pub untaken_unit : (u : AskedUnit) → IsUntaken p c e m f u → get (taking p c e m f).table (key_at o u.unit) ≡ get (resvs_of (ask_style m.ask) f) (key_at o u.unit)
+  untaken_unit u h =
+      ⊎_elim (λ (w : IsRefusedWhole p c e m f). ap (λ (t : Resvs). get t (key_at o u.unit)) (refused_whole w)) (λ (a : IsRefusedAlone p c e m f u). refused_alone u a) h.1
+
+  -- under the key of none of them nothing changes
+  of_none : (k : LineKey) → ((u : AskedUnit) → In u us → k ≡ key_at o u.unit → ⊥) → get (taking p c e m f).table k ≡ get (resvs_of (ask_style m.ask) f) k
+  of_none k h = by (is_none (known f m.session)) (style_conflict f m.session (ask_style m.ask))
+    where
+      by : (b : Bool) (other : Option StyleKind) → get (taking_of p o us f b other).table k ≡ get (resvs_of (ask_style m.ask) f) k
+      by true other = refl
+      by false (Some x) = refl
+      by false None = units_one_by_one.others p o f all us first k h
+
+  -- so under none but the keys of those that are taken
+  pub taken_alone : (k : LineKey) → ((u : AskedUnit) → In u us → k ≡ key_at o u.unit → IsUntaken p c e m f u)
+      → get (taking p c e m f).table k ≡ get (resvs_of (ask_style m.ask) f) k
+  taken_alone k h =
+      ⊎_elim
+      (λ (x : (u : AskedUnit) × In u us × (k ≡ key_at o u.unit)).
+      ap (λ (z : LineKey). get (taking p c e m f).table z) x.2 ∙ untaken_unit x.0 (h x.0 x.1 x.2) ∙ ap (λ (z : LineKey). get (resvs_of (ask_style m.ask) f) z) (sym x.2))
+      (λ (none : (u : AskedUnit) → In u us → k ≡ key_at o u.unit → ⊥). of_none k none)
+      (find_unit (key_at o) us k)
 
   pub booked : (u : AskedUnit) (part : Part) (before : Taking) → Passes p c e m f u part before
       → get (taking p c e m f).table (key_at o u.unit) ≡ Some (resv_state o part (get before.table (key_at o u.unit)))

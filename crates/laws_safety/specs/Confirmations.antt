@@ -41,11 +41,12 @@ pub record IsUnitHeld (b : BookTable) (s : Session) (st : StyleKind) (u : AskedU
 abbrev pub HoldsAtLeast : BookTable → ResvConfMsg → Type 0
 HoldsAtLeast b m = (u : AskedUnit) → In u (asked_units m.ask) → IsUnitHeld b m.session (ask_style m.ask) u
 
--- a unit that the Resv asks for, with this flow
+-- a unit that the Resv asks for, with this flow; where senders are named, it names them, too
 pub record IsAskedUnit (r : ResvMsg) (u : AskedUnit) : Type 0 where
   pub unit : AskedUnit
   pub asks : In unit (asked_units r.ask)
   pub same : u.unit ≡ unit.unit
+  pub names : (listed : Names) → u.names ≡ Some listed → (all : Names) × (unit.names ≡ Some all) × IsWithin listed all
   pub flow : u.flow ≡ unit.flow
 
 -- ---- where a ResvConf begins

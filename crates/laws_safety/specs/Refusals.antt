@@ -85,6 +85,19 @@ AnUntakenUnitChangesNothing q s w =
     (y : Item) (m : ResvMsg) (e : End) (f g : Facts) (u : AskedUnit) → IsResvAt q s w y m e f g → IsUntaken (config_in q w e.node) w.clock (iface_of w.net.ends y.end) m f u
     → get (resvs_of (ask_style m.ask) g) (key_of w y m u) ≡ get (resvs_of (ask_style m.ask) f) (key_of w y m u)
 
+-- no unit of the Resv takes this place: where one of them would stand there, the Resv is for another address than that of the
+-- interface by which it comes, or the unit is not taken
+abbrev pub IsNoPlaceOf : ℕ → World → Item → ResvMsg → End → Facts → StyleKind → LineKey → Type 0
+IsNoPlaceOf q w y m e f st k =
+    (u : AskedUnit) → In u (asked_units m.ask) → st ≡ ask_style m.ask → k ≡ key_of w y m u → y.dst ≡ own (config_in q w e.node) (iface_of w.net.ends y.end)
+    → IsUntaken (config_in q w e.node) w.clock (iface_of w.net.ends y.end) m f u
+
+-- a Resv changes no reservations of the node but those of its units that are taken: what stood in any other place, of whichever
+-- session, hop and style, stands there after the step, and nothing new does
+abbrev pub AResvChangesWhatItTakesAlone : ℕ → Step → World → Type 0
+AResvChangesWhatItTakesAlone q s w =
+    (y : Item) (m : ResvMsg) (e : End) (f g : Facts) (st : StyleKind) (k : LineKey) → IsResvAt q s w y m e f g → IsNoPlaceOf q w y m e f st k → get (resvs_of st g) k ≡ get (resvs_of st f) k
+
 -- a Resv that is refused as a whole changes no reservation of the node
 abbrev pub ARefusedResvChangesNoReservation : ℕ → Step → World → Type 0
 ARefusedResvChangesNoReservation q s w =

@@ -3,7 +3,7 @@ ghost use Rattle.laws_safety.specs.Blockades.{ABlockadeStays, AResvErrTearsNothi
 ghost use Rattle.laws_safety.specs.Books.{AreBooksWithinCapacity};
 ghost use Rattle.laws_safety.specs.Confirmations.{AConfirmationIsHeld, EachConfirmationHasBegun};
 ghost use Rattle.laws_safety.specs.InRuns.{AtEveryStep, InEveryWorld};
-ghost use Rattle.laws_safety.specs.Refusals.{ARefusedCallChangesNothing, ARefusedResvChangesNoReservation, AUnitThatPassesIsBooked, AnUntakenUnitChangesNothing};
+ghost use Rattle.laws_safety.specs.Refusals.{ARefusedCallChangesNothing, ARefusedResvChangesNoReservation, AResvChangesWhatItTakesAlone, AUnitThatPassesIsBooked, AnUntakenUnitChangesNothing};
 
 /// No book passes its capacity, nor any part of it the MTU, in any world of the run of any fit script (RFC 2205, 1: admission control).
 pub fn no_book_passes_its_capacity()
@@ -19,6 +19,12 @@ pub fn a_refused_call_changes_nothing()
 /// its death stay, so that no lifetime begins anew.
 pub fn an_untaken_unit_changes_no_reservation()
     ensures { AtEveryStep AnUntakenUnitChangesNothing }
+{}
+
+/// A Resv changes no reservations of its node but those of its units that are taken: none of another session, hop or style, and none
+/// at all where it is for another address than that of the interface by which it comes.
+pub fn a_resv_changes_what_it_takes_alone()
+    ensures { AtEveryStep AResvChangesWhatItTakesAlone }
 {}
 
 /// A Resv that is refused as a whole, for want of a path or for its style, changes no reservation of its node.
@@ -65,7 +71,8 @@ pub fn a_resv_err_tears_nothing()
 {}
 
 /// A ResvConf that a node sends begins there or goes on: where it begins, a Resv came that asks for it, and behind the step the book of
-/// its interface holds at least what is confirmed, which that Resv asked for (RFC 2205, 2.6).
+/// its interface holds at least what is confirmed: units for which that Resv asked, with these flows and with each sender that is listed
+/// (RFC 2205, 2.6).
 pub fn a_confirmation_is_held()
     ensures { AtEveryStep AConfirmationIsHeld }
 {}
