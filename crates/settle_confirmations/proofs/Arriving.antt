@@ -1,9 +1,8 @@
 -- A Resv that asks to be confirmed arrives where its session sets up its reservations: what it leaves at its node, unit by unit.
-use Rattle.std.proofs.Common.{◌≡◌, ℕ, ◌+◌, ◌<◌, List, [], ◌∷◌, length, Bool, true, false, Option, None, Some, ◌⊎◌, inl, inr, ⊎_elim, arith, sym, refl, ap, subst, ◌∙◌}
+use Rattle.std.proofs.Common.{◌≡◌, ℕ, ◌+◌, ◌<◌, List, length, Bool, true, false, Option, None, Some, ◌⊎◌, inl, inr, ⊎_elim, arith, sym, refl, ap, subst, ◌∙◌}
 use Rattle.std.specs.Prelude.{slice_get, is_some, not, ◌++◌}
 use Rattle.std.specs.List.{filter_map}
 use Rattle.std.specs.Option.{option_map}
-use Rattle.std.specs.Ordering.{eq_by_cmp}
 use Rattle.rsvp_base.specs.declared.addr.Addr.{Addr}
 use Rattle.rsvp_base.specs.declared.part.Part.{Part}
 use Rattle.rsvp_base.specs.declared.session.Sender.{Sender}
@@ -18,13 +17,13 @@ use Rattle.rsvp_base.specs.Styles.{part_unit}
 use Rattle.rsvp_base.specs.Table.{get, has}
 use Rattle.rsvp_base.proofs.Members.{in_each}
 use Rattle.rsvp_base.proofs.SetLaws.{and_both, has-cut}
-use Rattle.rsvp_base.proofs.Tables.{either, same_table, tied_same, tied_self}
+use Rattle.rsvp_base.proofs.Tables.{same_table}
 use Rattle.rsvp_base.proofs.UnderLaws.{get-under}
 use Rattle.rsvp_messages.specs.declared.message.Message.TheVariants as message
 use Rattle.rsvp_messages.specs.declared.message.ResvMsg.{ResvMsg}
 use Rattle.rsvp_messages.specs.Units.{AskedUnit, ask_style, asked_units}
 use Rattle.style_rules.specs.CutLaws.{cut_of, part_of_some}
-use Rattle.style_rules.specs.Lines.{LineKey, NextHop, line_keys, next_hops}
+use Rattle.style_rules.specs.Lines.{LineKey, NextHop, next_hops}
 use Rattle.style_rules.specs.PartLaws.{part_at_most_both_ways}
 use Rattle.style_rules.specs.Merge.{PartTable}
 use Rattle.style_rules.specs.Parts.{IsOfStyle, IsPartAtMost, has_name, part_cut}
@@ -64,6 +63,7 @@ use Rattle.network_model.proofs.Quiet.{outcome_by}
 use Rattle.network_model.proofs.Stepping.{facts_after_made}
 use Rattle.laws_network.proofs.Known.{came_there, end_found, node_there, of_some}
 use Rattle.laws_network.proofs.Standing.{own_end}
+use Rattle.laws_safety.proofs.Units.{find_unit}
 use Rattle.settle_paths.specs.PreviousHops.{IsAhead}
 use Rattle.settle_paths.proofs.PreviousHops.{ahead, ends_there}
 use Rattle.settle_resvs.specs.GoalByIface.{goal_at}
@@ -105,20 +105,6 @@ same_at st un rs rs' open_to open_too on back = by (get (merged_toward st rs) un
         e ∙ ap Some (part_at_most_both_ways v w (unit_below st un rs rs' open_to open_too on v w e e') (unit_below st un rs' rs open_too open_to back w v e' e)) ∙ sym e'
     by (Some v) e None e' = let bad : false ≡ true = sym (ap is_some e') ∙ unit_there st un rs rs' open_to open_too on (ap is_some e) in absurd (cc)
     by None e (Some w) e' = let bad : false ≡ true = sym (ap is_some e) ∙ unit_there st un rs' rs open_too open_to back (ap is_some e') in absurd (cc)
-
--- ---- a unit of the list has the key, or none has
-find_unit : (key_in : UnitOf → LineKey) (us : List AskedUnit) (k : LineKey) → ((b : AskedUnit) × In b us × (k ≡ key_in b.unit)) ⊎ ((b : AskedUnit) → In b us → k ≡ key_in b.unit → ⊥)
-find_unit key_in [] k = inr (λ b i e. i)
-find_unit key_in (b ∷ bs) k =
-    either (eq_by_cmp line_keys.cmp k (key_in b.unit)) (λ tied. inl (b, inl refl, tied_same line_keys k (key_in b.unit) tied))
-    (λ apart.
-    ⊎_elim (λ (some : (c : AskedUnit) × In c bs × (k ≡ key_in c.unit)). inl (some.0, inr some.1, some.2))
-    (λ (none : (c : AskedUnit) → In c bs → k ≡ key_in c.unit → ⊥). inr (λ c i e.
-    ⊎_elim
-    (λ (is : c ≡ b).
-    let bad : true ≡ false = sym (ap (λ (z : LineKey). eq_by_cmp line_keys.cmp k z) (sym (e ∙ ap (λ (z : AskedUnit). key_in z.unit) is)) ∙ tied_self line_keys k) ∙ apart in
-    cc)
-    (λ (j : In c bs). none c j e) i)) (find_unit key_in bs k))
 
 -- a reservation of which the part is looked up
 abbrev pub part_in : ResvState → Part

@@ -67,7 +67,7 @@ use Rattle.tree_model.specs.Ranks.{longest}
 use Rattle.tree_model.specs.Trees.{tree}
 use Rattle.tree_model.proofs.Ifaces.{interfaces_are_ends}
 use Rattle.tree_model.proofs.TreeLaws.{one}
-use Rattle.network_model.specs.Bounds.{IsStart}
+use Rattle.network_model.specs.Bounds.{AreBounds, AreHosts}
 use Rattle.network_model.specs.Events.{passes}
 use Rattle.network_model.specs.Locals.{IsLive, locals_of}
 use Rattle.network_model.specs.Steps.{At, machine, ms_of, outcome, sent, still}
@@ -86,7 +86,7 @@ use Rattle.settle_resvs.proofs.TowardNames.{parts_of_style}
 use Rattle.settle_network.specs.Settled.{HasSettled}
 use Rattle.settle_passes.specs.Reserving.{AsksNoLess, IsReserving, after_want}
 use Rattle.settle_passes.proofs.Calls.{IsCalled, called, called_there}
-use Rattle.settle_passes.proofs.Serving.{settled_is_reserved}
+use Rattle.settle_passes.proofs.Serving.{begins, settled_is_reserved}
 use Rattle.settle_passes.proofs.Wanting.{a_receiver_is_set_up}
 use Rattle.settle_confirmations.specs.Requests.{IsAnswered, IsConfirmed, IsForAtLeast, IsOnlySender, IsRequest, arrival_units}
 use Rattle.settle_confirmations.proofs.Arriving.{same_at}
@@ -598,14 +598,14 @@ module _ (q n : ℕ) (s : Session) (st : StyleKind) (names : Names) (flow : Toke
         (called q w n call k.node k.facts)
 
 -- ---- in a settled network
-module _ (q n : ℕ) (s : Session) (st : StyleKind) (names : Names) (flow : TokenBucket) (x : Sender) (w : World) (start : IsStart q w) (settled : HasSettled q w) (quiet : w.flight ≡ [])
-    (only_one : IsOnlySender w s x) (list : IsFitList st names) (sound : IsSound flow) (no_less : AsksNoLess w n s st names flow true)
+module _ (q n : ℕ) (s : Session) (st : StyleKind) (names : Names) (flow : TokenBucket) (x : Sender) (w : World) (bounds : AreBounds q w) (hosts : AreHosts w)
+    (settled : HasSettled q w) (quiet : w.flight ≡ []) (only_one : IsOnlySender w s x) (list : IsFitList st names) (sound : IsSound flow) (no_less : AsksNoLess w n s st names flow true)
     (fit : DemandsFit w.net (locals_of (after_want q n s st names flow true w))) where
   abbrev asked : World
   asked = after_want q n s st names flow true w
 
   reserving : (c : Session) → IsReserving q c w
-  reserving = settled_is_reserved q w start settled quiet
+  reserving = settled_is_reserved q w (begins q n s st names flow true w bounds hosts settled quiet list sound no_less fit) settled quiet
 
   reserving_then : (c : Session) → IsReserving q c asked
   reserving_then c = (a_receiver_is_set_up q n c s st names flow true w (reserving c) list sound no_less (each_fits w.net (locals_of asked) fit c)).0

@@ -40,7 +40,7 @@ use Rattle.tree_model.specs.Ranks.{longest}
 use Rattle.tree_model.specs.Trees.{hops_of, tree}
 use Rattle.tree_model.specs.Wants.{live}
 use Rattle.tree_model.proofs.Following.{number_same}
-use Rattle.network_model.specs.Bounds.{IsStart}
+use Rattle.network_model.specs.Bounds.{AreBounds, AreHosts}
 use Rattle.network_model.specs.Events.{passes}
 use Rattle.network_model.specs.Locals.{locals_of}
 use Rattle.network_model.specs.Steps.{At, machine, ms_of, outcome, sent, still}
@@ -58,7 +58,7 @@ use Rattle.settle_resvs.proofs.TowardNames.{parts_of_style}
 use Rattle.settle_network.specs.Settled.{HasSettled}
 use Rattle.settle_passes.specs.Reserving.{AllAsk, AsksNoLess, IsAskedLast, IsKeptOver, IsReserving, after_want}
 use Rattle.settle_passes.proofs.Calls.{IsCalled, called}
-use Rattle.settle_passes.proofs.Serving.{settled_is_reserved}
+use Rattle.settle_passes.proofs.Serving.{begins, settled_is_reserved}
 use Rattle.settle_passes.proofs.Turns.{Turns, all_ask}
 use Rattle.settle_passes.proofs.Wanting.{a_receiver_is_set_up}
 use Rattle.settle_confirmations.specs.Requests.{ComeByOneEnd, IsAnsweredForOne}
@@ -335,11 +335,12 @@ module _ (q n : ℕ) (s : Session) (names : Names) (flow : TokenBucket) (e : ℕ
   answered_then y i = answered_for_one q s names flow e asked rising_then y i (up_then y i (of_call y i))
 
 -- ---- in a settled network
-pub a_fixed_filter_is_answered : (q n : ℕ) (s : Session) (names : Names) (flow : TokenBucket) (e : ℕ) (w : World) → IsStart q w → HasSettled q w → w.flight ≡ [] → ComeByOneEnd w n s names e
-    → IsFitList Fixed names → IsSound flow → AsksNoLess w n s Fixed names flow true → DemandsFit w.net (locals_of (after_want q n s Fixed names flow true w))
+pub a_fixed_filter_is_answered : (q n : ℕ) (s : Session) (names : Names) (flow : TokenBucket) (e : ℕ) (w : World) → AreBounds q w → AreHosts w → HasSettled q w → w.flight ≡ []
+    → ComeByOneEnd w n s names e → IsFitList Fixed names → IsSound flow → AsksNoLess w n s Fixed names flow true → DemandsFit w.net (locals_of (after_want q n s Fixed names flow true w))
     → (y : Item) → In y (after_want q n s Fixed names flow true w).flight
     → Happens (machine q) (IsAnsweredForOne s names flow e) (passes q (2 * longest w.net) (after_want q n s Fixed names flow true w)) (after_want q n s Fixed names flow true w)
-a_fixed_filter_is_answered q n s names flow e w start settled quiet one_end list sound no_less fit y i =
+a_fixed_filter_is_answered q n s names flow e w bounds hosts settled quiet one_end list sound no_less fit y i =
+    let start = begins q n s Fixed names flow true w bounds hosts settled quiet list sound no_less fit in
     let r : (c : Session) → IsReserving q c w = settled_is_reserved q w start settled quiet in
     let r' : (c : Session) → IsReserving q c (after_want q n s Fixed names flow true w) =
     (λ c. (a_receiver_is_set_up q n c s Fixed names flow true w (r c) list sound no_less (each_fits w.net (locals_of (after_want q n s Fixed names flow true w)) fit c)).0) in

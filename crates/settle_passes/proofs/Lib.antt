@@ -6,6 +6,7 @@ pub mod Fading
 pub mod Tearing
 pub mod Dropping
 pub mod Growing
+pub mod Fitting
 pub mod SoundParts
 pub mod Turns
 pub mod Reserving

@@ -295,7 +295,7 @@ module _ (q n : ℕ) (c : Session) (st : StyleKind) (names : Names) (flow : Toke
         ))
         (called q w n call m f)
 
-    more : (x : LocalWant) → In x (locals_of w).wants → HasNoLess (locals_of asked).wants x
+    pub more : (x : LocalWant) → In x (locals_of w).wants → HasNoLess (locals_of asked).wants x
     more x i =
         let r = want_of_node w x i in
         let d = want_then x.node r.0 r.3 r.1 r.2 r.4 in
@@ -309,7 +309,7 @@ module _ (q n : ℕ) (c : Session) (st : StyleKind) (names : Names) (flow : Toke
         }
 
     -- ---- so what is sound stays so
-    sound_on : (st' : StyleKind) (s : Session) (e : ℕ) (next : Addr) (u : UnitOf) (p : Part) → IsSoundPart st' w s e next u p → IsSoundPart st' asked s e next u p
+    pub sound_on : (st' : StyleKind) (s : Session) (e : ℕ) (next : Addr) (u : UnitOf) (p : Part) → IsSoundPart st' w s e next u p → IsSoundPart st' asked s e next u p
     sound_on st' s e next u p h =
         sound_grows st' w asked refl start.bounds.net.loop_free (want_parts q w start.bounds) (want_parts q asked bounds_then) locals_same more s e next u p h
 

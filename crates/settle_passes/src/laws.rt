@@ -8,7 +8,7 @@ ghost use Rattle.router_rules.specs.Facts.{SenderKey};
 ghost use Rattle.router_rules.specs.Steps.{IsFitList};
 ghost use Rattle.tree_model.specs.Goals.{DemandsFit};
 ghost use Rattle.tree_model.specs.Ranks.{longest};
-ghost use Rattle.network_model.specs.Bounds.{AreHosts, IsStart};
+ghost use Rattle.network_model.specs.Bounds.{AreBounds, AreHosts};
 ghost use Rattle.network_model.specs.Locals.{locals_of};
 ghost use Rattle.network_model.specs.Sound.{ArePathsComplete, ArePathsSound, AreResvsSound};
 ghost use Rattle.network_model.specs.Worlds.{World};
@@ -80,10 +80,11 @@ pub fn a_reserving_network_settles()
     ensures { (q : ℕ) (w : World) → ((s : Session) → IsReserving q s w) → HasSettled q (after_passes q (longest w.net) w) }
 {}
 
-/// So a settled network has settled again H passes after a receiver asks, without waiting: one in which nothing is in flight and whose
-/// demands fit, where the receiver asks for no less than its node did before for the session, and the demands fit then too.
+/// So a settled network has settled again H passes after a receiver asks, without waiting: one within bounds with hosts, in which nothing is
+/// in flight, where the receiver asks for no less than its node did before for the session, and after the call the demands fit, as they
+/// then did before.
 pub fn a_settled_network_serves_a_receiver()
-    ensures { (q n : ℕ) (s : Session) (st : StyleKind) (names : Names) (flow : TokenBucket) (confirm : Bool) (w : World) → IsStart q w → HasSettled q w → w.flight ≡ []
+    ensures { (q n : ℕ) (s : Session) (st : StyleKind) (names : Names) (flow : TokenBucket) (confirm : Bool) (w : World) → AreBounds q w → AreHosts w → HasSettled q w → w.flight ≡ []
         → IsFitList st names → IsSound flow → AsksNoLess w n s st names flow confirm → DemandsFit w.net (locals_of (after_want q n s st names flow confirm w))
         → HasSettled q (after_passes q (longest w.net) (after_want q n s st names flow confirm w)) }
 {}
