@@ -67,8 +67,9 @@ use Rattle.settle_resvs.proofs.SoftResvs.{resv_found, resv_made}
 use Rattle.settle_resvs.proofs.SoundResvs.{part_again}
 use Rattle.settle_resvs.proofs.TowardNames.{parts_of_style}
 use Rattle.settle_passes.specs.Reserving.{IsKeptOver}
+use Rattle.settle_passes.proofs.Fitting.{as_before}
 use Rattle.settle_passes.proofs.Turns.{Turns, addressed_in_turn, left, moment, place, resv_in_turn}
-use Rattle.settle_releases.proofs.Within.{WantedMore, as_before, named_within, same_names, toward_is_at_most_what_was_wanted, AreKeptWithin}
+use Rattle.settle_releases.proofs.Within.{WantedMore, named_within, same_names, toward_is_at_most_what_was_wanted, AreKeptWithin}
 
 -- what nodes keep, and each unit of a Resv in flight, is at most what was wanted before
 pub record AreResvsWithin (before : List Facts) (w : World) : Type 0 where

@@ -37,11 +37,12 @@ use Rattle.settle_resvs.proofs.SoftResvs.{resv_found, resv_made}
 use Rattle.settle_passes.specs.Passes.{after_passes}
 use Rattle.settle_passes.specs.Reserving.{AllAsk, AreExactUpTo, HasReserved, IsAskedLast, IsKeptOver, IsLetter}
 use Rattle.settle_passes.proofs.Deliveries.{known_self, same_next}
+use Rattle.settle_passes.proofs.Fitting.{as_before}
 use Rattle.settle_passes.proofs.Spreading.{after_deliveries, run_then}
 use Rattle.settle_passes.proofs.Tearing.{drop_or, no_rest, tail_drop}
 use Rattle.settle_passes.proofs.Turns.{none_sent}
 use Rattle.settle_passes.proofs.Reserving.{some_asks}
-use Rattle.settle_releases.proofs.Within.{as_before, same_names}
+use Rattle.settle_releases.proofs.Within.{same_names}
 use Rattle.settle_releases.proofs.Accepting.{some_unit}
 use Rattle.settle_releases.proofs.TakenBack.{IsForgotten, IsTornLater}
 use Rattle.settle_releases.proofs.Receding.{IsReceding, receding_next, turns}

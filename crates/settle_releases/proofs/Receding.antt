@@ -66,6 +66,7 @@ use Rattle.settle_resvs.proofs.SoftResvs.{IsAsked, WasThere, resv_found, resv_ma
 use Rattle.settle_resvs.proofs.SoundResvs.{part_again}
 use Rattle.settle_passes.specs.Reserving.{AllAsk, AreAskedFor, IsAskedLast, IsKeptOver, IsLetter}
 use Rattle.settle_passes.proofs.Deliveries.{bounds_next, came_by_delivery, hosts_next, known_self, known_stays, live_back, no_tear_next, path_at_next, same_next, sound_next, tear_of_none}
+use Rattle.settle_passes.proofs.Fitting.{as_before}
 use Rattle.settle_passes.proofs.SoundParts.{sound_cut}
 use Rattle.rsvp_messages.specs.declared.message.ResvTearMsg.{ResvTearMsg}
 use Rattle.router_rules.specs.Asking.{stays}
@@ -73,7 +74,7 @@ use Rattle.settle_passes.specs.Calls.{HasItsPaths}
 use Rattle.settle_passes.proofs.Reserving.{all_append, last_before}
 use Rattle.settle_passes.proofs.Turns.{Turns, addressed_in_turn, news}
 use Rattle.settle_paths.specs.PreviousHops.{IsPrevious}
-use Rattle.settle_releases.proofs.Within.{WantedMore, as_before, AreKeptWithin}
+use Rattle.settle_releases.proofs.Within.{WantedMore, AreKeptWithin}
 use Rattle.settle_releases.proofs.Accepting.{AreResvsWithin, kept_on, taken_within, within_after}
 use Rattle.settle_releases.proofs.Tears.{nothing_left}
 use Rattle.tree_model.specs.Wants.{Locals, names}

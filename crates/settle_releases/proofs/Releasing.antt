@@ -73,6 +73,7 @@ use Rattle.settle_passes.specs.Passes.{HasNoPathTear, after_passes}
 use Rattle.settle_passes.specs.Reserving.{AllAsk, AreAskedFor, HasReserved, IsAskedLast, IsKeptOver, IsReserving, after_want}
 use Rattle.settle_passes.proofs.Calls.{IsCalled, called, path_sent_by_call, sent_by_call}
 use Rattle.settle_passes.proofs.Deliveries.{sent_is_sound}
+use Rattle.settle_passes.proofs.Fitting.{as_before}
 use Rattle.settle_passes.proofs.Reserving.{all_append, last_before, ready}
 use Rattle.settle_passes.proofs.Turns.{Turns, addressed_in_turn, news}
 use Rattle.settle_resvs.proofs.Accepting.{fits_again}
@@ -84,7 +85,7 @@ use Rattle.settle_resvs.proofs.SoundResvs.{part_again}
 use Rattle.settle_passes.proofs.Growing.{HasNoLess}
 use Rattle.settle_passes.proofs.Serving.{settled_again, settled_is_reserved}
 use Rattle.settle_releases.specs.Releases.{AsksNoMore, after_quit, after_quits}
-use Rattle.settle_releases.proofs.Within.{WantedMore, as_before, same_names, AreKeptWithin}
+use Rattle.settle_releases.proofs.Within.{WantedMore, same_names, AreKeptWithin}
 use Rattle.settle_releases.proofs.Fitting.{less_fits}
 use Rattle.settle_releases.proofs.Accepting.{AreResvsWithin, within_after}
 use Rattle.settle_releases.proofs.TakenBack.{AllWithin, AreTakenBack, ComesWithin, IsForgotten, IsHeldWithin, IsTornLater, IsWithinLast, NoneAsks}
@@ -454,7 +455,7 @@ module _ (q n : ℕ) (call : Local) (w : World) (start : HasItsPaths q w) (fit :
           inr (torn_later asked k x.names w.flight new x.item refl x.new x.tears
           (comes_then k x.names w.flight (comes_within w k v x.names x.less w.flight (r.asked k v f.0 of there f.1 e))) quiet))
 
-      receding_then : IsReceding q s before asked
+      pub receding_then : IsReceding q s before asked
       receding_then = record {
         paths = paths_then;
         more = more_then;
@@ -558,7 +559,7 @@ reserved_again q before w r c =
 pub some_session : Session
 some_session = record { group = record { 0 = 0 }; proto = 0; port = 0 }
 
-settles_again : (q : ℕ) (before : List Facts) (w : World) → ((c : Session) → IsReceding q c before w) → HasSettled q (after_passes q (longest w.net) w)
+pub settles_again : (q : ℕ) (before : List Facts) (w : World) → ((c : Session) → IsReceding q c before w) → HasSettled q (after_passes q (longest w.net) w)
 settles_again q before w r =
     settled_again q some_session (after_passes q (longest w.net) w) (λ c. (reserved_again q before w r c).0) (λ c. (reserved_again q before w r c).1.exact)
 

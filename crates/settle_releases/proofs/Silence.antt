@@ -51,13 +51,13 @@ use Rattle.rsvp_messages.specs.declared.message.Message.{Message}
 use Rattle.rsvp_messages.specs.declared.message.ResvMsg.{ResvMsg}
 use Rattle.rsvp_messages.specs.declared.message.ResvTearMsg.{ResvTearMsg}
 use Rattle.settle_passes.proofs.Deliveries.{came_by_delivery}
+use Rattle.settle_passes.proofs.Fitting.{as_before}
 use Rattle.settle_passes.proofs.Spreading.{after_deliveries, run_then}
 use Rattle.settle_passes.proofs.Turns.{Turns, left, moment, place, sent_in_turn}
 use Rattle.settle_passes.specs.Passes.{after_passes}
 use Rattle.settle_paths.proofs.PreviousHops.{ahead, ends_there, same_by_addr}
 use Rattle.settle_releases.proofs.Falling.{reservations_recede, fall}
 use Rattle.settle_releases.proofs.Receding.{IsReceding, receding_next, taken, turns}
-use Rattle.settle_releases.proofs.Within.{as_before}
 use Rattle.settle_resvs.specs.GoalByIface.{goal_at}
 use Rattle.settle_resvs.specs.Said.{HopKey, IsOver, hop_over}
 use Rattle.std.proofs.Common.{Bool, List, None, Option, Some, [], ap, arith, cond, false, inl, inr, length, refl, subst, suc, sym, true, zero, ℕ, ⊎_elim, ◌++◌, ◌∙◌, ◌∷◌, ◌≡◌, ◌⊎◌}

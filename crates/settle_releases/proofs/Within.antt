@@ -43,6 +43,7 @@ use Rattle.laws_inputs.proofs.Requesting.{requests_and_toward}
 use Rattle.tree_model.specs.declared.hops.LinkHop.{LinkHop}
 use Rattle.tree_model.specs.Networks.{node_of, iface_of}
 use Rattle.tree_model.specs.Ranks.{Follows, followers, rank}
+use Rattle.tree_model.specs.Valid.{IsValid}
 use Rattle.tree_model.proofs.Following.{number_same, follows_follower}
 use Rattle.tree_model.proofs.Ifaces.{interfaces_are_ends}
 use Rattle.tree_model.proofs.RankLaws.{rank_falls_at}
@@ -59,14 +60,11 @@ use Rattle.settle_resvs.proofs.WantStyles.{own_style, want_style}
 use Rattle.rsvp_base.specs.declared.session.Session.{Session}
 use Rattle.tree_model.specs.declared.locals.LocalSender.{LocalSender}
 use Rattle.settle_resvs.specs.Laws.{AreWantParts}
+use Rattle.settle_passes.proofs.Fitting.{as_before}
 use Rattle.settle_passes.proofs.Growing.{HasNoLess}
 use Rattle.style_rules.specs.Lines.{LineKey}
 
--- ---- the network with its nodes as they were
-abbrev pub as_before : List Facts → World → World
-as_before before w = record w { nodes = before }
-
--- with them the same hosts sent, and wanted no less
+-- ---- with the nodes as they were the same hosts sent, and wanted no less
 pub record WantedMore (before : List Facts) (w : World) : Type 0 where
   pub senders : (locals_of (as_before before w)).senders ≡ (locals_of w).senders
   pub parts : AreWantParts (locals_of (as_before before w))
@@ -113,8 +111,11 @@ want_more Shared s t less p x named e =
     above (cut p.senders t) x p.flow named (cut_in p.senders s t x m.senders less) (subst (λ (z : TokenBucket). IsAtMost z p.flow) (sym m.flow) (at_most_itself p.flow))
 
 -- ---- toward a previous hop
-module _ (q : ℕ) (before : List Facts) (w : World) (bounds : AreBounds q w) (paths : ArePathsSound w) (more : WantedMore before w) (n : ℕ) (f : Facts) (at : slice_get w.nodes n ≡ Some f)
-    (l : Lane) (h : LinkHop) (is : IsPrevious w.net n l.session l.hop h) (low : AreSoundBelow l.style (as_before before w) n f l.session (rank w.net l.session.group h)) where
+-- where the names via the hop are among those that it had
+module _ (q : ℕ) (before : List Facts) (w : World) (valid : IsValid w.net) (kinds : AreWantParts (locals_of (as_before before w)))
+    (wanted : (x : LocalWant) → In x (locals_of w).wants → HasNoLess (locals_of (as_before before w)).wants x) (n : ℕ) (f : Facts) (at : slice_get w.nodes n ≡ Some f) (l : Lane) (h : LinkHop)
+    (is : IsPrevious w.net n l.session l.hop h) (via : IsWithin (names_via f l) (names l.style w.net (locals_of (as_before before w)) l.session (h ∷ [])))
+    (low : AreSoundBelow l.style (as_before before w) n f l.session (rank w.net l.session.group h)) where
   abbrev was : Locals
   was = locals_of (as_before before w)
 
@@ -131,14 +132,11 @@ module _ (q : ℕ) (before : List Facts) (w : World) (bounds : AreBounds q w) (p
     above_it : IsPartAtMost x part
     style : IsOfStyle l.style part
 
-  via : IsWithin (names_via f l) (over (h ∷ []))
-  via = subst (λ (z : Names). IsWithin (names_via f l) z) (sym (same_names before w more l.style l.session (h ∷ []))) (via_within w n f bounds.net paths at l h is)
-
   of_want : (x : Request) → has_name x.part ≡ true → IsWantRequest f l x → Stands x.part
   of_want x named r =
       let y = want_more l.style (names_via f l) (over (h ∷ [])) via r.want.part x.part named r.part in
       let mine : LocalWant = want_at n ((l.session, r.unit), r.want) in
-      let m = more.wants mine (node_wants w n f (l.session, r.unit) r.want at r.there) in
+      let m = wanted mine (node_wants w n f (l.session, r.unit) r.want at r.there) in
       let d = wanted_below l.style (over (h ∷ [])) r.want.part m.want.part y.0 m.part y.1 in
       let mine_is : is_wanted_at l.style l.session (node_of w.net.ends h.to) mine ≡ true =
       and_made _ _ (number_same n (node_of w.net.ends h.to) (sym is.node)) (and_made _ _ (tied_self sessions l.session)
@@ -152,7 +150,7 @@ module _ (q : ℕ) (before : List Facts) (w : World) (bounds : AreBounds q w) (p
         part = d.0;
         among = in_left d.0 _ _ here;
         above_it = part_at_most_along x.part y.0 d.0 y.2 d.2;
-        style = own_style l.style w.net was l.session more.parts h d.0 here;
+        style = own_style l.style w.net was l.session kinds h d.0 here;
       }
 
   -- names of a request of a reservation are over the hop
@@ -173,7 +171,7 @@ module _ (q : ℕ) (before : List Facts) (w : World) (bounds : AreBounds q w) (p
       let good = low.named (l.session, r.key) r.resv r.there refl in
       let one = both first.name first.there in
       let follows = (a_common_name l.style w.net was l.session h good.hop first.name one.1 (good.names first.name one.0) (good.node ∙ sym is.node)).1 in
-      let sound = low.sound (l.session, r.key) r.resv good r.there refl (rank_falls_at w.net bounds.net.loop_free l.session.group h good.hop follows) in
+      let sound = low.sound (l.session, r.key) r.resv good r.there refl (rank_falls_at w.net valid.loop_free l.session.group h good.hop follows) in
       let s = sound.sound in
       let up = part_at_most_told r.resv.part s.wanted s.below in
       let meet : node_of w.net.ends s.hop.from ≡ node_of w.net.ends h.to = ap (node_of w.net.ends) s.from ∙ ((interfaces_are_ends w.net).iface_of_end n r.key.0.0 sound.end sound.at).1 ∙ sym is.node in
@@ -194,7 +192,7 @@ module _ (q : ℕ) (before : List Facts) (w : World) (bounds : AreBounds q w) (p
         among = in_right y.0 _ _ (to_flat_map (brought l.style w.net was l.session h (want l.style w.net was l.session)) s.hop y.0 (followers w.net l.session.group h)
             (follows_follower w.net l.session.group h s.hop (name first.name first.there).1) here);
         above_it = y.2;
-        style = cut_of_style l.style s.wanted y.0 (over (h ∷ s.hop ∷ [])) (want_style l.style w.net was l.session more.parts s.hop r.key.1 s.wanted s.is).0 y.1;
+        style = cut_of_style l.style s.wanted y.0 (over (h ∷ s.hop ∷ [])) (want_style l.style w.net was l.session kinds s.hop r.key.1 s.wanted s.is).0 y.1;
       }
 
   of_request : (u : UnitOf) (x : Request) → IsRequestOf l.style (requests (config_of q w.net w.trees n) f l) u x → Stands x.part
@@ -210,14 +208,14 @@ module _ (q : ℕ) (before : List Facts) (w : World) (bounds : AreBounds q w) (p
       let m = merge_above units (part_unit l.style) (λ (p : Part). p) parts s.part s.among s.style.named in
       let unit : u ≡ part_unit l.style s.part = r.unit ∙ within_unit l.style s.part x.part s.style r.named s.above_it.names in (
         m.0,
-        ap (λ (t : PartTable). get t u) ((want_equation l.style w.net was l.session bounds.net.loop_free).equation h) ∙ ap (get (merge l.style parts)) unit ∙ m.1,
+        ap (λ (t : PartTable). get t u) ((want_equation l.style w.net was l.session valid.loop_free).equation h) ∙ ap (get (merge l.style parts)) unit ∙ m.1,
         part_at_most_along x.part s.part m.0 s.above_it m.2,
       )
 
   -- what goes toward the previous hop is sound by what was wanted
-  pub toward_is_at_most_what_was_wanted : (u : UnitOf) (t : Part) → get (toward (config_of q w.net w.trees n) f l) u ≡ Some t
+  pub toward_is_within_what_was_wanted : (u : UnitOf) (t : Part) → get (toward (config_of q w.net w.trees n) f l) u ≡ Some t
       → IsSoundPart l.style (as_before before w) l.session h.from (addr_of w.net h.to) u t
-  toward_is_at_most_what_was_wanted u t e =
+  toward_is_within_what_was_wanted u t e =
       let first = toward_source l.style (requests (config_of q w.net w.trees n) f l) u (ap is_some e) in
       let v = want_above u first.0 first.1 in
       let every : (x : Request) → IsRequestOf l.style (requests (config_of q w.net w.trees n) f l) u x → (has_name x.part ≡ true) × IsPartAtMost x.part v.0 =
@@ -239,6 +237,14 @@ module _ (q : ℕ) (before : List Facts) (w : World) (bounds : AreBounds q w) (p
     where
       two : (a b : Part) → has_name a ≡ true → not (is_none (union a.senders b.senders)) ≡ true
       two a b e = ap not (some_within a.senders (union a.senders b.senders) (within_union_left senders a.senders b.senders) (not-true (is_none a.senders) e))
+
+-- as where paths are sound
+pub toward_is_at_most_what_was_wanted : (q : ℕ) (before : List Facts) (w : World) → AreBounds q w → ArePathsSound w → WantedMore before w → (n : ℕ) (f : Facts) → slice_get w.nodes n ≡ Some f
+    → (l : Lane) (h : LinkHop) → IsPrevious w.net n l.session l.hop h → AreSoundBelow l.style (as_before before w) n f l.session (rank w.net l.session.group h)
+    → (u : UnitOf) (t : Part) → get (toward (config_of q w.net w.trees n) f l) u ≡ Some t → IsSoundPart l.style (as_before before w) l.session h.from (addr_of w.net h.to) u t
+toward_is_at_most_what_was_wanted q before w bounds paths more n f at l h is low u t e =
+    toward_is_within_what_was_wanted q before w bounds.net more.parts more.wants n f at l h is
+    (subst (λ (z : Names). IsWithin (names_via f l) z) (sym (same_names before w more l.style l.session (h ∷ []))) (via_within w n f bounds.net paths at l h is)) low u t e
 
 -- ---- what nodes keep is at most what was wanted
 abbrev pub AreKeptWithin : List Facts → World → Type 0

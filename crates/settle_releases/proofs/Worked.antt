@@ -40,8 +40,8 @@ use Rattle.rsvp_base.proofs.Counts.{found_in}
 
 -- ---- the receiver is served
 settled : HasSettled 7500 served_world
-settled = a_settled_network_serves_a_receiver 7500 1 session Wild empty usual false heard_world a_receiver_asks.begins a_receiver_asks.settled refl tt a_receiver_asks.flow a_receiver_asks.no_less
-    a_receiver_asks.all_fit
+settled = a_settled_network_serves_a_receiver 7500 1 session Wild empty usual false heard_world a_receiver_asks.begins.bounds a_receiver_asks.begins.locals a_receiver_asks.settled refl tt
+    a_receiver_asks.flow a_receiver_asks.no_less a_receiver_asks.all_fit
 
 reserved : (s : Session) → IsReserving 7500 s served_world × HasReserved s served_world
 reserved s =
