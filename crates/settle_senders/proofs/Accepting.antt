@@ -1,12 +1,12 @@
 -- Each Resv of a session that arrives is taken whole, where the names that it lists are known.
-use Rattle.std.proofs.Common.{◌≡◌, ℕ, true, Some, sym, refl, ap, subst, ◌∙◌}
+use Rattle.std.proofs.Common.{◌≡◌, ℕ, List, true, Some, sym, refl, ap, subst, ◌∙◌}
 use Rattle.std.specs.Prelude.{slice_get}
 use Rattle.rsvp_base.specs.declared.addr.Addr.{Addr}
 use Rattle.rsvp_base.specs.declared.part.Part.{Part}
 use Rattle.rsvp_base.specs.declared.session.Sender.{Sender}
 use Rattle.rsvp_base.specs.declared.session.Session.{Session}
 use Rattle.rsvp_base.specs.Members.{In}
-use Rattle.rsvp_base.specs.Orders.{senders}
+use Rattle.rsvp_base.specs.Orders.{Names, senders}
 use Rattle.rsvp_base.specs.Table.{has, kept}
 use Rattle.rsvp_base.proofs.SetLaws.{and_made, has-kept}
 use Rattle.rsvp_messages.specs.declared.message.Message.TheVariants as message
@@ -14,6 +14,7 @@ use Rattle.rsvp_messages.specs.declared.message.ResvMsg.{ResvMsg}
 use Rattle.rsvp_messages.specs.Proper.{IsProperAsk}
 use Rattle.rsvp_messages.specs.Units.{AskedUnit, ask_style, asked_units}
 use Rattle.style_rules.specs.CutLaws.{name_some}
+use Rattle.style_rules.specs.PartLaws.{part_at_most_itself}
 use Rattle.laws_inputs.proofs.Knowing.{known_and_via}
 use Rattle.laws_steps.specs.AcceptingLaws.{CanBeTaken, IsPlaced, IsTakenWhole}
 use Rattle.laws_steps.proofs.Admitting.{what_is_accepted}
@@ -24,6 +25,7 @@ use Rattle.router_rules.specs.Known.{known}
 use Rattle.router_rules.specs.NodeConfig.{NodeConfig, goes_out}
 use Rattle.tree_model.specs.declared.locals.LocalWant.{LocalWant}
 use Rattle.tree_model.specs.Networks.{iface_of, node_of}
+use Rattle.tree_model.specs.Wants.{Locals}
 use Rattle.tree_model.proofs.Following.{in_tree}
 use Rattle.tree_model.proofs.TreeLaws.{out_told}
 use Rattle.network_model.specs.Bounds.{AreBounds, IsProperArrival}
@@ -36,12 +38,21 @@ use Rattle.laws_network.proofs.Standing.{goes_out_made}
 use Rattle.settle_resvs.specs.GoalByIface.{goal_at}
 use Rattle.settle_resvs.specs.Sessions.{Carries, SessionFits}
 use Rattle.settle_resvs.proofs.GoalByIface.{session_can_be_held}
+use Rattle.settle_resvs.proofs.SoundResvs.{part_again}
 use Rattle.settle_resvs.proofs.UnderTheGoal.{has_place, sound_under, want_needs}
-use Rattle.settle_releases.proofs.Accepting.{some_unit}
+use Rattle.settle_passes.proofs.Growing.{HasNoLess}
+use Rattle.settle_releases.proofs.Accepting.{AreResvsWithin, some_unit}
+use Rattle.settle_passes.proofs.Fitting.{as_before}
 use Rattle.settle_senders.specs.Following.{AreNamesKnown, HasSenderNamed}
 
-module _ (q : ℕ) (s : Session) (u : World) (bounds : AreBounds q u) (fit : SessionFits u.net (locals_of u) s) (sound : AreResvsSound u) (names : AreNamesKnown u) (y : Item) (m : ResvMsg)
-    (i : In y u.flight) (spelt : y.arrival ≡ Spelt (message.Resv m)) (of : m.session ≡ s) (f : Facts) (at : slice_get u.nodes (node_of u.net.ends y.end) ≡ Some f) where
+-- ---- where what nodes keep and ask for is within what was wanted before, which fitted
+module _ (q : ℕ) (s : Session) (before : List Facts) (u : World) (bounds : AreBounds q u) (wanted : (x : LocalWant) → In x (locals_of u).wants → HasNoLess (locals_of (as_before before u)).wants x)
+    (fit : SessionFits u.net (locals_of (as_before before u)) s) (within : AreResvsWithin before u) (y : Item) (m : ResvMsg) (i : In y u.flight) (spelt : y.arrival ≡ Spelt (message.Resv m))
+    (of : m.session ≡ s) (f : Facts) (at : slice_get u.nodes (node_of u.net.ends y.end) ≡ Some f)
+    (named : (v : AskedUnit) (ns : Names) (x : Sender) → In v (asked_units m.ask) → v.names ≡ Some ns → has ns x ≡ true → HasSenderNamed u y.end m.session (ask_style m.ask) x) where
+  abbrev was : Locals
+  was = locals_of (as_before before u)
+
   abbrev n : ℕ
   n = node_of u.net.ends y.end
 
@@ -68,51 +79,76 @@ module _ (q : ℕ) (s : Session) (u : World) (bounds : AreBounds q u) (fit : Ses
         name = h.name;
       })
 
-  placed : (v : AskedUnit) → In v (asked_units m.ask) → IsPlaced here asks f (goal_at u.net (locals_of u) n) v
+  placed : (v : AskedUnit) → In v (asked_units m.ask) → IsPlaced here asks f (goal_at u.net was n) v
   placed v j =
-      let x = sound.items y m v i spelt j in
+      let x = within.items y m v i spelt j in
       let part : Part = record { senders = x.names; flow = v.flow } in
       record {
         names = x.names;
         listed = x.named;
         some = name_some x.names x.sound.some;
-        match = λ z e. matches z (names.items y m v x.names z i spelt j x.named e);
-        place = has_place u asks y.end v.unit part x.sound refl;
+        match = λ z e. matches z (named v x.names z j x.named e);
+        place = has_place (as_before before u) asks y.end v.unit part x.sound refl;
       }
 
   proper : IsProperAsk m.ask
   proper = let p = (bounds.flight y i).proper in subst IsProperArrival spelt p
 
-  fits : SessionFits u.net (locals_of u) m.session
-  fits = subst (SessionFits u.net (locals_of u)) (sym of) fit
+  fits : SessionFits u.net was m.session
+  fits = subst (SessionFits u.net was) (sym of) fit
 
   -- the end carries the session
-  carries : Carries u.net (locals_of u) m.session y.end
+  carries : Carries u.net was m.session y.end
   carries =
       let v = some_unit m.ask proper in
-      let x = sound.items y m v.0 i spelt v.1 in
+      let x = within.items y m v.0 i spelt v.1 in
       record { hop = x.sound.hop; there = x.sound.there; from = x.sound.from; style = ask_style m.ask; unit = v.0.unit; part = x.sound.wanted; wanted = x.sound.is }
 
   -- someone wants something of the session in the style
-  wants : (w : LocalWant) × In w (locals_of u).wants × (w.session ≡ m.session) × (w.style ≡ ask_style m.ask)
+  wants : (w : LocalWant) × In w was.wants × (w.session ≡ m.session) × (w.style ≡ ask_style m.ask)
   wants =
       let v = some_unit m.ask proper in
-      let x = sound.items y m v.0 i spelt v.1 in
-      let b = want_needs (ask_style m.ask) u.net (locals_of u) m.session x.sound.hop v.0.unit x.sound.wanted x.sound.is in
+      let x = within.items y m v.0 i spelt v.1 in
+      let b = want_needs (ask_style m.ask) u.net was m.session x.sound.hop v.0.unit x.sound.wanted x.sound.is in
       (b.want, b.there, b.session, b.style)
 
-  can_be_taken : CanBeTaken here u.clock (iface_of u.net.ends y.end) m f (goal_at u.net (locals_of u) n)
+  can_be_taken : CanBeTaken here u.clock (iface_of u.net.ends y.end) m f (goal_at u.net was n)
   can_be_taken = record {
     proper = proper;
-    lines_held = session_can_be_held q u.net u.trees (locals_of u) m.session y.end bounds.net fits carries;
-    there = sound_under u n f (λ st k r h. sound.facts st n f k r at h);
+    lines_held = session_can_be_held q u.net u.trees was m.session y.end bounds.net fits carries;
+    there = sound_under (as_before before u) n f (λ st k r h. within.facts st n f k r at h);
     units = placed;
     resv_style = λ st k r h same.
-        let x = (sound.facts st n f k r at h).sound in
-        let b = want_needs st u.net (locals_of u) k.0 x.hop k.1.1 x.wanted x.is in
+        let x = (within.facts st n f k r at h).sound in
+        let b = want_needs st u.net was k.0 x.hop k.1.1 x.wanted x.is in
         sym b.style ∙ fits.one_style b.want wants.0 b.there wants.1 (b.session ∙ same) wants.2 ∙ wants.3;
-    want_style = λ v w h. fits.one_style (want_at n ((m.session, v), w)) wants.0 (node_wants u n f (m.session, v) w at h) wants.1 refl wants.2 ∙ wants.3;
+    want_style = λ v w h.
+        let b = wanted (want_at n ((m.session, v), w)) (node_wants u n f (m.session, v) w at h) in
+        sym b.style ∙ fits.one_style b.want wants.0 b.among wants.1 b.session wants.2 ∙ wants.3;
   }
 
-  pub taken_whole : IsTakenWhole here here u.clock (iface_of u.net.ends y.end) m f (goal_at u.net (locals_of u) n)
-  taken_whole = what_is_accepted.whole here here u.clock u.clock (iface_of u.net.ends y.end) m f (goal_at u.net (locals_of u) n) (bounds.facts n f at) can_be_taken
+  pub taken_as_wanted : IsTakenWhole here here u.clock (iface_of u.net.ends y.end) m f (goal_at u.net was n)
+  taken_as_wanted = what_is_accepted.whole here here u.clock u.clock (iface_of u.net.ends y.end) m f (goal_at u.net was n) (bounds.facts n f at) can_be_taken
+
+-- ---- where it is within what is wanted
+itself_within : (u : World) → AreResvsSound u → AreResvsWithin u.nodes u
+itself_within u sound = record {
+  facts = λ st n f k r at h.
+      let x = sound.facts st n f k r at h in
+      record { end = x.end; at = x.at; sound = part_again st u (as_before u.nodes u) k.0 x.end k.1.0.1 k.1.1 r.part refl refl x.sound };
+  items = λ y m v i spelt asks.
+      let x = sound.items y m v i spelt asks in
+      record {
+        names = x.names;
+        named = x.named;
+        sound = part_again (ask_style m.ask) u (as_before u.nodes u) m.session y.end m.hop.addr v.unit (record { senders = x.names; flow = v.flow }) refl refl x.sound;
+      };
+}
+
+pub taken_whole : (q : ℕ) (s : Session) (u : World) → AreBounds q u → SessionFits u.net (locals_of u) s → AreResvsSound u → AreNamesKnown u → (y : Item) (m : ResvMsg) → In y u.flight
+    → y.arrival ≡ Spelt (message.Resv m) → m.session ≡ s → (f : Facts) → slice_get u.nodes (node_of u.net.ends y.end) ≡ Some f
+    → IsTakenWhole (config_of q u.net u.trees (node_of u.net.ends y.end)) (config_of q u.net u.trees (node_of u.net.ends y.end)) u.clock (iface_of u.net.ends y.end) m f
+    (goal_at u.net (locals_of u) (node_of u.net.ends y.end))
+taken_whole q s u bounds fit sound names y m i spelt of f at =
+    taken_as_wanted q s u.nodes u bounds (λ x j. record { want = x; among = j; node = refl; session = refl; style = refl; part = part_at_most_itself x.part }) fit
+    (itself_within u sound) y m i spelt of f at (λ v ns x asks listed there. names.items y m v ns x i spelt asks listed there)

@@ -20,11 +20,10 @@ use Rattle.settle_network.specs.Settled.{HasSettled}
 use Rattle.settle_passes.specs.Calls.{IsNew, after_send}
 use Rattle.settle_passes.specs.Passes.{AreSpreading, after_passes}
 use Rattle.settle_passes.specs.Reserving.{HasReserved, IsReserving}
+use Rattle.settle_passes.proofs.Fitting.{as_before, demands_below, want_is_sound}
 use Rattle.settle_passes.proofs.Rising.{reservations_are_set_up, reservations_rise_one_hop_a_pass}
 use Rattle.settle_passes.proofs.Serving.{settled_again, settled_is_reserved}
 use Rattle.settle_passes.proofs.Spreading.{after_deliveries, paths_are_set_up, run_then}
-use Rattle.settle_releases.proofs.Fitting.{demands_below, want_is_sound}
-use Rattle.settle_releases.proofs.Within.{as_before}
 use Rattle.settle_senders.specs.Following.{IsFollowing}
 use Rattle.settle_senders.proofs.Following.{following_next}
 use Rattle.settle_senders.proofs.Sending.{a_reserving_session_follows, following_then, no_less, sound_on}
@@ -41,7 +40,7 @@ reservations_follow_paths q (suc n) s w r =
     subst (λ (z : World). IsFollowing q s z) (sym (run_then q (pass q w) (passes q n v) w)) (reservations_follow_paths q n s v (following_on q s (length w.flight) w r))
 
 -- so many passes and then so many more
-passes_sum : (q m n : ℕ) (w : World) → after_passes q (m + n) w ≡ after_passes q n (after_passes q m w)
+pub passes_sum : (q m n : ℕ) (w : World) → after_passes q (m + n) w ≡ after_passes q n (after_passes q m w)
 passes_sum q zero n w = let sum : zero + n ≡ n = omega arith in ap (λ (z : ℕ). after_passes q z w) sum
 passes_sum q (suc m) n w =
     let v : World = after_deliveries q (length w.flight) w in
@@ -53,7 +52,7 @@ pub deliveries_stay : (q m : ℕ) (u : World) → (after_deliveries q m u).net �
 deliveries_stay q zero u = refl
 deliveries_stay q (suc m) u = deliveries_stay q m (step q (Deliver 0) u)
 
-net_stays : (q n : ℕ) (w : World) → (after_passes q n w).net ≡ w.net
+pub net_stays : (q n : ℕ) (w : World) → (after_passes q n w).net ≡ w.net
 net_stays q zero w = refl
 net_stays q (suc n) w =
     let v : World = after_deliveries q (length w.flight) w in

@@ -178,7 +178,7 @@ record IsTearOfSound (w : World) (y : Item) (m : ResvTearMsg) : Type 0 where
   takes : TakesName m part
 
 -- where a Path in flight came from: a node that is so many hops from the root at least
-abbrev IsPathFrom : Net → ℕ → Item → Type 0
+abbrev pub IsPathFrom : Net → ℕ → Item → Type 0
 IsPathFrom net n y = (m : PathMsg) (x : Sender) (t : TokenBucket) → y.arrival ≡ Spelt (message.Path m) → m.sender ≡ Some (x, t) → IsFrom net (m.session, x) n y
 
 less_deep : (net : Net) (i j : ℕ) → i ≤ j → (y : Item) → IsPathFrom net j y → IsPathFrom net i y
@@ -263,7 +263,7 @@ module _ (q : ℕ) (u : World) (bounds : AreBounds q u) (no_tear : HasNoPathTear
           (λ (new : IsBrought q u.net (Deliver 0) u r k x). inr (deep_by_path r k x new))
           (path_source q (Deliver 0) u refl bounds r k x (path_made (step q (Deliver 0) u) r k x g after e))
 
-  path_sent_from : (y : Item) (b : Bool) → In (y, b) (sent q (Deliver 0) u) → IsPathFrom u.net (suc n) y
+  pub path_sent_from : (y : Item) (b : Bool) → In (y, b) (sent q (Deliver 0) u) → IsPathFrom u.net (suc n) y
   path_sent_from y b i m x t spelt sender =
       let r = sent_by_rule q (Deliver 0) u y b (message.Path m) refl i spelt in
       let p : NodeConfig = config_of q u.net u.trees r.node in

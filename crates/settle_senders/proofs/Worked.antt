@@ -21,7 +21,7 @@ use Rattle.style_rules.specs.Limits.{IsWithinLimits}
 use Rattle.style_rules.specs.Lines.{Line, LineKey, held}
 use Rattle.value_texts.specs.Texts.{addr_text, flow_text, sender_text, session_text}
 use Rattle.value_texts.specs.Reports.{entry_line, head_text}
-use Rattle.router_rules.specs.Facts.{Facts, ResvState, SenderKey, Want, WantKey, no_facts, resvs_of, sender_keys, want_keys}
+use Rattle.router_rules.specs.Facts.{Facts, PathState, ResvState, SenderKey, Want, WantKey, no_facts, resvs_of, sender_keys, want_keys}
 use Rattle.tree_model.specs.declared.hops.End.{End}
 use Rattle.tree_model.specs.declared.hops.LinkHop.{LinkHop}
 use Rattle.tree_model.specs.declared.hops.TreeHop.{TreeHop}
@@ -45,13 +45,17 @@ use Rattle.settle_paths.specs.Sure.{forth}
 use Rattle.settle_resvs.specs.Sessions.{AreExactOf, IsFreeOfBlockadesOf}
 use Rattle.settle_resvs.proofs.GoalByIface.{each_fits}
 use Rattle.settle_resvs.proofs.UnderTheGoal.{want_needs}
+use Rattle.settle_passes.specs.Calls.{HasItsPaths}
 use Rattle.settle_passes.specs.Reserving.{AsksNoLess, HasReserved, IsReserving}
 use Rattle.settle_passes.proofs.AskedExample.{a_receiver_asks}
 use Rattle.settle_passes.proofs.Serving.{settled_again}
 use Rattle.settle_passes.proofs.Wanting.{a_receiver_is_set_up, a_settled_session_is_reserved}
 use Rattle.settle_passes.proofs.Worked.{a_pair_is_set_up}
 use Rattle.settle_releases.specs.Releases.{HasNoMark}
-use Rattle.settle_senders.specs.Worked.{AMarkIsAnswered, ANewDemandIsRefused, APathGoesToOneEnd, AReceiverWaits, ATearIsInFlight, NoPassIsSpared, WhatIsLeftOverStays, joined_world, waiting_world}
+use Rattle.settle_releases.specs.Worked.{served_world}
+use Rattle.settle_releases.proofs.Worked.{a_receiver_quits}
+use Rattle.settle_senders.specs.Worked.{AMarkIsAnswered, ANewDemandIsRefused, APathGoesToOneEnd, AReceiverWaits, ASenderEnds, ASharedFlowFallsLater, ATearIsInFlight}
+use Rattle.settle_senders.specs.Worked.{NoPassIsSpared, TwoSendersEnd, WhatIsLeftOverStays, joined_world, let_go_world, waiting_world}
 use Rattle.settle_senders.proofs.Sending.{a_reserving_session_follows}
 use Rattle.settle_senders.proofs.Serving.{a_new_sender_is_followed}
 
@@ -260,3 +264,42 @@ a_path_goes_to_one_end = record { text = refl }
 pub a_mark_is_answered : AMarkIsAnswered
 unfolding facts_with
 a_mark_is_answered = record { text = refl }
+
+-- ---- the host of the served pair ends
+nobody_then : (n : ℕ) (m : Table sender_keys TokenBucket) (k : SenderKey) (t : TokenBucket) → senders_at let_go_world n ≡ Some m → get m k ≡ Some t → ⊥
+nobody_then zero m k t e h =
+    let same : no_facts.senders ≡ m = of_some _ _ e in
+    let none : get no_facts.senders k ≡ Some t = ap (λ (z : Table sender_keys TokenBucket). get z k) same ∙ h in
+    cc
+nobody_then (suc zero) m k t e h =
+    let same : no_facts.senders ≡ m = of_some _ _ e in
+    let none : get no_facts.senders k ≡ Some t = ap (λ (z : Table sender_keys TokenBucket). get z k) same ∙ h in
+    cc
+nobody_then (suc (suc n)) m k t e h = cc
+
+-- what the other node has
+abbrev heard_path : PathState
+heard_path = record { iface = 0; hop = record { addr = s1; handle = 0 }; tspec = usual; police = true; adspec = None; dies = 157500 }
+
+not_forgotten : HasItsPaths 7500 let_go_world → ⊥
+not_forgotten h =
+    let l = (h.sound.facts 1 (unwrap_or (slice_get let_go_world.nodes 1) no_facts) (session, first) heard_path refl refl).sound.live in
+    nobody_then l.node l.senders (session, first) usual l.at l.sends
+
+pub a_sender_ends : ASenderEnds
+a_sender_ends = record {
+  bounds = a_receiver_quits.begins.bounds;
+  locals = a_receiver_quits.begins.locals;
+  settled = a_receiver_quits.settled;
+  quiet = refl;
+  sends = record { facts = unwrap_or (slice_get served_world.nodes 0) no_facts; there = refl; sends = refl };
+  not_yet = not_forgotten;
+}
+
+pub a_shared_flow_falls_later : ASharedFlowFallsLater
+unfolding digits addr_text session_text sender_text flow_text entry_line head_text facts_with
+a_shared_flow_falls_later = record { long = refl; text = refl }
+
+pub two_senders_end : TwoSendersEnd
+unfolding digits head_text facts_with
+two_senders_end = record { long = refl; text = refl }

@@ -1,19 +1,28 @@
 //! The laws.
-ghost use Rattle.std.specs.Prelude.{◌≡◌, ℕ, ◌*◌, []};
+ghost use Rattle.std.specs.Prelude.{◌≡◌, ℕ, suc, ◌+◌, ◌*◌, [], true, false};
 ghost use Rattle.rsvp_base.specs.declared.session.Session.{Session};
+ghost use Rattle.rsvp_base.specs.Sets.{with_key};
 ghost use Rattle.rsvp_base.specs.TokenBucket.{IsSound, TokenBucket};
+ghost use Rattle.laws_inputs.specs.Frames.{calls_on_senders};
 ghost use Rattle.router_rules.specs.Facts.{SenderKey};
+ghost use Rattle.router_rules.specs.Inputs.{Local};
+ghost use Rattle.router_rules.specs.Steps.{IsFitCall};
 ghost use Rattle.tree_model.specs.Goals.{DemandsFit};
 ghost use Rattle.tree_model.specs.Ranks.{longest};
-ghost use Rattle.network_model.specs.Bounds.{AreBounds, AreHosts};
+ghost use Rattle.network_model.specs.Bounds.{AreBounds, AreHosts, IsStart};
 ghost use Rattle.network_model.specs.Locals.{locals_of};
+ghost use Rattle.network_model.specs.Sound.{TakesAll};
+ghost use Rattle.network_model.specs.Steps.{At, Step, is_quiet, step};
 ghost use Rattle.network_model.specs.Worlds.{World};
+ghost use Rattle.settle_adverts.specs.Demanded.{HasSettledAdverts, advertised_senders};
 ghost use Rattle.settle_resvs.specs.Sessions.{SessionFits};
 ghost use Rattle.settle_network.specs.Settled.{HasSettled};
-ghost use Rattle.settle_passes.specs.Calls.{IsNew, after_send};
+ghost use Rattle.settle_passes.specs.Calls.{HasItsPaths, IsNew, SendsAt, after_drop, after_send};
 ghost use Rattle.settle_passes.specs.Passes.{after_passes};
 ghost use Rattle.settle_passes.specs.Reserving.{HasReserved, IsReserving};
 ghost use Rattle.settle_releases.specs.Releases.{HasNoMark};
+ghost use Rattle.settle_senders.specs.Adverts.{AreAdvertising, HasItsAdverts, after_advert};
+ghost use Rattle.settle_senders.specs.Ending.{AreAsksOfLive, AreNamesLive, AreNoMoreThanWanted, EndsHoldNoMore};
 ghost use Rattle.settle_senders.specs.Following.{IsFollowing};
 
 /// Where paths spread and the reservations of a session follow them, as when a host begins to send where receivers wait, they do so still n
@@ -65,4 +74,114 @@ pub fn a_settled_network_serves_a_sender()
 pub fn a_sender_leaves_nothing_in_flight()
     ensures { (q n : ℕ) (k : SenderKey) (t : TokenBucket) (w : World) → AreBounds q w → AreHosts w → HasSettled q w → w.flight ≡ [] → HasNoMark w → IsSound t → IsNew w k
         → AreHosts (after_send q n k t w) → DemandsFit w.net (locals_of (after_send q n k t w)) → (after_passes q (2 * longest w.net) (after_send q n k t w)).flight ≡ [] }
+{}
+
+/// A network within bounds with hosts, in which advertisements have settled and nothing is in flight, has its adverts: its paths are there, each
+/// of an advertised sender keeps the advertisement of its way, and each other path none.
+pub fn settled_adverts_are_there()
+    ensures { (q : ℕ) (w : World) → AreHosts w → HasSettledAdverts q w → w.flight ≡ [] → HasItsAdverts q w }
+{}
+
+/// And where it has its adverts, they have settled: so an `adverts` line writes what is demanded (`settle_adverts::settled_adverts_are_demanded`).
+pub fn adverts_that_are_there_have_settled()
+    ensures { (q : ℕ) (w : World) → HasItsAdverts q w → HasSettledAdverts q w }
+{}
+
+/// In a network that has its adverts, over each hop of a sender's tree what the node before it says of the sender stands behind it once all that
+/// is on its way has arrived.
+pub fn adverts_that_are_there_are_said()
+    ensures { (q : ℕ) (w : World) → HasItsAdverts q w → AreAdvertising q w }
+{}
+
+/// That goes on so when a host begins to send: where nobody sends as this sender yet, and senders are few enough after the call and send to
+/// groups.
+pub fn a_new_sender_is_said()
+    ensures { (q n : ℕ) (k : SenderKey) (t : TokenBucket) (w : World) → AreAdvertising q w → IsSound t → IsNew w k → AreHosts (after_send q n k t w) → AreAdvertising q (after_send q n k t w) }
+{}
+
+/// And when a host advertises, and when a receiver asks or quits: by each call that is neither one to send nor one to end, whether or not it is
+/// refused. Of a host that sends already and says another flow nothing is said here.
+pub fn an_advert_is_said()
+    ensures { (q n : ℕ) (l : Local) (w : World) → AreAdvertising q w → IsFitCall l → calls_on_senders l ≡ false → AreAdvertising q (step q (At n l) w) }
+{}
+
+/// And by passes: so the next call may come before what the first one changed is known.
+pub fn adverts_are_said_still()
+    ensures { (q n : ℕ) (w : World) → AreAdvertising q w → AreAdvertising q (after_passes q n w) }
+{}
+
+/// H passes from the last call on the network has its adverts; H is the length of the longest chain.
+pub fn adverts_are_set_up()
+    ensures { (q : ℕ) (w : World) → AreAdvertising q w → HasItsAdverts q (after_passes q (longest w.net) w) }
+{}
+
+/// So when a host advertises, in a network that has its adverts, as one in which they have settled and nothing is in flight, the network has its
+/// adverts again H passes on, without waiting: each path of the sender, if the call is not refused, keeps the advertisement of its way, and no
+/// Path is in flight. Where the call is refused nothing changes.
+pub fn an_advert_is_set_up()
+    ensures { (q n : ℕ) (k : SenderKey) (w : World) → HasItsAdverts q w → HasItsAdverts q (after_passes q (longest w.net) (after_advert q n k w)) }
+{}
+
+/// And where the host sends as this sender, that is advertised then: the senders that are advertised are those of before and this one, and so
+/// it stays pass by pass. So it is whatever the paths keep yet, as where the host began to send just before.
+pub fn an_advert_is_taken()
+    ensures { (q n m : ℕ) (k : SenderKey) (w : World) → AreAdvertising q w → SendsAt w n k
+        → advertised_senders (after_passes q m (after_advert q n k w)) ≡ with_key (advertised_senders w) k }
+{}
+
+/// And when a host begins to send as a sender that nobody was, to a group, where few enough send then, and advertises it at once, no pass
+/// between: H passes on the network has its adverts again, so that each path of the sender is there, and keeps the advertisement of its way
+/// where neither call is refused.
+pub fn a_new_sender_is_advertised()
+    ensures { (q n : ℕ) (k : SenderKey) (t : TokenBucket) (w : World) → HasItsAdverts q w → IsSound t → IsNew w k → AreHosts (after_send q n k t w)
+        → HasItsAdverts q (after_passes q (longest w.net) (after_advert q n k (after_send q n k t w))) }
+{}
+
+/// And what is reserved is then what it was: when a host advertises in a settled network within bounds with hosts, in which nothing is in flight
+/// and whose demands fit, the network has settled again H passes on, and after each pass from then on, so that each book is its demand, which
+/// depends on the routing, who sends and what is wanted alone. Of the passes before the last of these H it says nothing.
+pub fn an_advert_leaves_reservations()
+    ensures { (q n m : ℕ) (k : SenderKey) (w : World) → IsStart q w → HasSettled q w → w.flight ≡ [] → HasSettled q (after_passes q (m + longest w.net) (after_advert q n k w)) }
+{}
+
+/// And where reservations follow paths they do so still when a host advertises, for this session or another.
+pub fn an_advert_is_followed()
+    ensures { (q n : ℕ) (s : Session) (k : SenderKey) (w : World) → IsFollowing q s w → IsFollowing q s (after_advert q n k w) }
+{}
+
+/// So both go together: when a host begins to send where receivers wait, and advertises at once, in a settled network that has its adverts and
+/// in which nothing is in flight, 2 H passes on the network has settled again, and has its adverts.
+pub fn a_settled_network_serves_an_advertised_sender()
+    ensures { (q n : ℕ) (k : SenderKey) (t : TokenBucket) (w : World) → HasItsAdverts q w → HasSettled q w → w.flight ≡ [] → IsSound t → IsNew w k
+        → AreHosts (after_send q n k t w) → DemandsFit w.net (locals_of (after_send q n k t w))
+        → HasSettled q (after_passes q (2 * longest w.net) (after_advert q n k (after_send q n k t w)))
+        × HasItsAdverts q (after_passes q (2 * longest w.net) (after_advert q n k (after_send q n k t w))) }
+{}
+
+/// When a host ends where receivers have what it sends, no node ever keeps more than was wanted before, however many passes later: from a
+/// settled network within bounds with hosts, in which nothing is in flight, each reservation is at most what was wanted over its hop, with
+/// the sender, and no end holds more than its demand was.
+pub fn a_sender_that_ends_asks_for_no_more()
+    ensures { (q n i : ℕ) (d : SenderKey) (w : World) → AreBounds q w → AreHosts w → HasSettled q w → w.flight ≡ [] → SendsAt w n d
+        → AreNoMoreThanWanted w (after_passes q i (after_drop q n d w)) × EndsHoldNoMore w (after_passes q i (after_drop q n d w)) }
+{}
+
+/// From H passes after a host ends on, no reservation names a sender that ended: each name is that of a sender that sends. Paths are those of
+/// the others then, and no PathTear is in flight.
+pub fn a_sender_that_ends_is_named_no_more()
+    ensures { (q n i : ℕ) (d : SenderKey) (w : World) → AreBounds q w → AreHosts w → HasSettled q w → w.flight ≡ [] → SendsAt w n d
+        → HasItsPaths q (after_passes q (longest w.net + i) (after_drop q n d w)) × AreNamesLive (after_passes q (longest w.net + i) (after_drop q n d w)) }
+{}
+
+/// From H + 1 passes after a host ends on, no Resv in flight names a sender that ended.
+pub fn a_sender_that_ends_is_asked_for_no_more()
+    ensures { (q n i : ℕ) (d : SenderKey) (w : World) → AreBounds q w → AreHosts w → HasSettled q w → w.flight ≡ [] → SendsAt w n d
+        → AreAsksOfLive (after_passes q (longest w.net + suc i) (after_drop q n d w)) }
+{}
+
+/// From H + 1 passes after a host ends on, nothing is refused, where the demands fitted before: each Resv that arrives is taken whole, whatever
+/// the network does by itself. Before that a router may answer with an error for the sender that ended, where a Resv overtakes the PathTear.
+pub fn what_is_asked_for_then_is_taken()
+    ensures { (q n i : ℕ) (d : SenderKey) (w : World) → IsStart q w → HasSettled q w → w.flight ≡ [] → SendsAt w n d → (t : Step) → is_quiet t ≡ true
+        → TakesAll q t (after_passes q (longest w.net + suc i) (after_drop q n d w)) }
 {}

@@ -1,6 +1,7 @@
 //! Worked rows: small networks, by computing.
-ghost use Rattle.settle_senders.specs.Worked.{AMarkIsAnswered, ANewDemandIsRefused, APathGoesToOneEnd, AReceiverWaits, ATearIsInFlight};
-ghost use Rattle.settle_senders.specs.Worked.{NoPassIsSpared, WhatIsLeftOverStays};
+ghost use Rattle.settle_senders.specs.AdvertsWorked.{AHostAdvertises, AStrayPathIsTaken, NoPassIsSparedAnAdvert};
+ghost use Rattle.settle_senders.specs.Worked.{AMarkIsAnswered, ANewDemandIsRefused, APathGoesToOneEnd, AReceiverWaits, ASenderEnds, ASharedFlowFallsLater, ATearIsInFlight};
+ghost use Rattle.settle_senders.specs.Worked.{NoPassIsSpared, TwoSendersEnd, WhatIsLeftOverStays};
 
 /// In a pair of nodes in which a receiver waits, a host begins to send: that meets the premises of the laws, and what they promise does not
 /// hold yet when it begins.
@@ -41,4 +42,42 @@ pub fn a_path_goes_to_one_end()
 /// 2 H passes.
 pub fn a_mark_is_answered()
     ensures { AMarkIsAnswered }
+{}
+
+/// A host of a pair of nodes begins to send and advertises, at once or when its path is there: that meets the premises of the laws on what
+/// paths keep of adverts, and what they promise of the H passes does not hold yet when it does. Those of `an_advert_leaves_reservations` the same
+/// world meets as `settle_passes::a_receiver_asks` has it.
+pub fn a_host_advertises()
+    ensures { AHostAdvertises }
+{}
+
+/// None of the H passes can be spared: in a line of two hops the last node keeps no advertisement one pass after the host advertises, and that
+/// of its way after two.
+pub fn no_pass_is_spared_an_advert()
+    ensures { NoPassIsSparedAnAdvert }
+{}
+
+/// Not without what is asked of Paths in flight when a host advertises: where one without an ADSPEC is injected of a sender that is advertised,
+/// in a network of one hop, and the host then begins to send as another one and advertises it, a pass later the path of the first keeps no
+/// advertisement, and that of the other the one of its way.
+pub fn a_stray_path_is_taken()
+    ensures { AStrayPathIsTaken }
+{}
+
+/// In a pair of nodes whose receiver is served, the host ends: that meets the premises of the laws on a sender that ends, and what they promise
+/// does not hold yet when it does.
+pub fn a_sender_ends()
+    ensures { ASenderEnds }
+{}
+
+/// They do not promise that H passes after a sender ends each book is its demand: where H is 3, a flow that two senders shared stands at the
+/// sender's end after three passes as large as before, and is what the other one needs after four.
+pub fn a_shared_flow_falls_later()
+    ensures { ASharedFlowFallsLater }
+{}
+
+/// Nor could they promise of two senders that end at once that 2 H passes later no ResvErr is in flight: where H is 1, a receiver that asks for
+/// each by name asks once more for the second one when it hears that the first has ended, and the answer is on its way after two passes.
+pub fn two_senders_end()
+    ensures { TwoSendersEnd }
 {}
