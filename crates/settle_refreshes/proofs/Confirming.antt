@@ -92,7 +92,7 @@ module _ (p : NodeConfig) (c : ℕ) (f : Facts) where
 
 -- ---- a reservation that keeps a wish kept it, or a Resv brought it
 -- the tables of a style
-style_at : (st of : StyleKind) (t : Resvs) (f : Facts) (k : LineKey) (x : ResvState) → get (resvs_of st (with_resvs of t f)) k ≡ Some x
+pub style_at : (st of : StyleKind) (t : Resvs) (f : Facts) (k : LineKey) (x : ResvState) → get (resvs_of st (with_resvs of t f)) k ≡ Some x
     → ((st ≡ of) × (get t k ≡ Some x)) ⊎ (get (resvs_of st f) k ≡ Some x)
 style_at Wild Wild t f k x e = inl (refl, e)
 style_at Wild Fixed t f k x e = inr e

@@ -8,6 +8,8 @@ pub mod PathErrors
 pub mod ResvErrors
 pub mod OneSender
 pub mod Waiting
+pub mod Loud
+pub mod Plain
 pub mod Settled
 pub mod Runs
 pub mod Worked

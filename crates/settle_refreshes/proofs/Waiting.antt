@@ -65,10 +65,10 @@ nothing : {A : Type 0} (xs : List A) → ((x : A) → In x xs → ⊥) → xs �
 nothing [] none = refl
 nothing (x ∷ xs) none = absurd (none x (inl refl))
 
-said_same : (a b : ResvMsg) → message.Resv a ≡ message.Resv b → a ≡ b
+pub said_same : (a b : ResvMsg) → message.Resv a ≡ message.Resv b → a ≡ b
 said_same a b e = cc
 
-cond_none : (b : Bool) (o : Option Addr) → o ≡ None → cond b o None ≡ None
+pub cond_none : (b : Bool) (o : Option Addr) → o ≡ None → cond b o None ≡ None
 cond_none true o e = e
 cond_none false o e = refl
 
@@ -83,7 +83,7 @@ module _ (p : NodeConfig) (f : Facts) (unmarked : (k : WantKey) (x : Want) → g
       let bad : true ≡ false = sym (and_both _ _ t.1).0 ∙ unmarked (l.session, e.0) e.1 there in
       cc))
 
-  no_wish_for : confirm_for p f l None ≡ None
+  pub no_wish_for : confirm_for p f l None ≡ None
   no_wish_for = ap (own_wish p l) no_marks
 
 -- ---- by a quiet step
