@@ -7,7 +7,7 @@ use Rattle.rsvp_base.specs.TokenBucket.{TokenBucket}
 use Rattle.laws_inputs.specs.Frames.{AreSameButMarks}
 use Rattle.laws_inputs.proofs.Framing.{wants_then}
 use Rattle.router_rules.specs.declared.answers.LocalErr.{LocalErr}
-use Rattle.router_rules.specs.Calls.{SendersOf, call_refusal, senders_with, unless, wants_with}
+use Rattle.router_rules.specs.Calls.{SendersOf, advertised_with, call_refusal, senders_with, unless, wants_with}
 use Rattle.router_rules.specs.Facts.{Facts, SenderKey, Want, WantKey}
 use Rattle.router_rules.specs.Inputs.{Call, Local}
 use Rattle.router_rules.specs.Steps.{facts_then}
@@ -30,20 +30,25 @@ same_or_not m n = by (m == n) refl
     by false t = inr ((λ e. let no : true ≡ false = sym (number_same m n e) ∙ t in absurd (cc)), t)
 
 module _ (q : ℕ) (u : World) (m : ℕ) (c : Local) where
-  others : (n : ℕ) (f : Facts) → (m == n) ≡ false → IsLeft f (outcome q (At m c) u n f).facts
+  pub others : (n : ℕ) (f : Facts) → (m == n) ≡ false → IsLeft f (outcome q (At m c) u n f).facts
   others n f off = subst (λ (b : Bool). IsLeft f (outcome_of q (cond b (Some (Call c)) None) (At m c) u n f).facts) (sym off) (itself f)
 
   module _ (f : Facts) (taken : call_refusal (config_of q u.net u.trees m) c f ≡ None) where
-    abbrev after : Facts
+    abbrev pub after : Facts
     after = (outcome q (At m c) u m f).facts
 
     on : (m == m) ≡ true
     on = number_same m m refl
 
-    own_senders : after.senders ≡ senders_with c f.senders
+    pub own_senders : after.senders ≡ senders_with c f.senders
     own_senders =
         ap (λ (b : Bool). (outcome_of q (cond b (Some (Call c)) None) (At m c) u m f).facts.senders) on
         ∙ ap (λ (r : Option LocalErr). unless r (senders_with c f.senders) f.senders) taken
+
+    pub own_advertised : after.advertised ≡ advertised_with c f.advertised
+    own_advertised =
+        ap (λ (b : Bool). (outcome_of q (cond b (Some (Call c)) None) (At m c) u m f).facts.advertised) on
+        ∙ ap (λ (r : Option LocalErr). unless r (advertised_with c f.advertised) f.advertised) taken
 
     own_wants : AreSameButMarks (wants_with c f.wants) after.wants
     own_wants =

@@ -5,7 +5,7 @@ use Rattle.rsvp_base.specs.Members.{In}
 use Rattle.rsvp_base.specs.Table.{get}
 use Rattle.rsvp_base.specs.TokenBucket.{TokenBucket}
 use Rattle.calm_rounds.specs.Machine.{run}
-use Rattle.laws_inputs.specs.Frames.{AreSameButMarks, on_senders, on_wants}
+use Rattle.laws_inputs.specs.Frames.{AreSameButMarks, on_advertised, on_senders, on_wants}
 use Rattle.router_rules.specs.Calls.{SendersOf}
 use Rattle.router_rules.specs.Facts.{Facts, SenderKey, Want, WantKey, Wants}
 use Rattle.router_rules.specs.Inputs.{Clear, Input, Moved}
@@ -48,14 +48,15 @@ abbrev pub is_call : Step → Bool
 is_call (At n l) = true
 is_call _ = false
 
-quiet_input : (s : Step) (u : World) (n : ℕ) (i : Input) → is_quiet s ≡ true → input_at s u n ≡ Some i → (on_senders i ≡ false) × (on_wants i ≡ false)
+quiet_input : (s : Step) (u : World) (n : ℕ) (i : Input) → is_quiet s ≡ true → input_at s u n ≡ Some i → (on_senders i ≡ false) × (on_wants i ≡ false) × (on_advertised i ≡ false)
 quiet_input s u n i quiet e =
-    ⊎_elim (λ (t : IsWaited s u n i). (ap on_senders t.is, ap on_wants t.is)) (λ (t : IsCame s u n i). (ap on_senders t.is, ap on_wants t.is)) (input_found s u n i quiet e)
+    ⊎_elim (λ (t : IsWaited s u n i). (ap on_senders t.is, ap on_wants t.is, ap on_advertised t.is))
+    (λ (t : IsCame s u n i). (ap on_senders t.is, ap on_wants t.is, ap on_advertised t.is)) (input_found s u n i quiet e)
 
-no_call : (s : Step) (u : World) (n : ℕ) (i : Input) → is_call s ≡ false → input_at s u n ≡ Some i → (on_senders i ≡ false) × (on_wants i ≡ false)
+no_call : (s : Step) (u : World) (n : ℕ) (i : Input) → is_call s ≡ false → input_at s u n ≡ Some i → (on_senders i ≡ false) × (on_wants i ≡ false) × (on_advertised i ≡ false)
 no_call (At m l) u n i off e = absurd (cc)
-no_call (ClearAt m) u n i off e = let r = at_node_found m n Clear i e in (ap on_senders r.1, ap on_wants r.1)
-no_call (Reroute g x hops) u n i off e = let is : i ≡ Moved = sym (of_some Moved i e) in (ap on_senders is, ap on_wants is)
+no_call (ClearAt m) u n i off e = let r = at_node_found m n Clear i e in (ap on_senders r.1, ap on_wants r.1, ap on_advertised r.1)
+no_call (Reroute g x hops) u n i off e = let is : i ≡ Moved = sym (of_some Moved i e) in (ap on_senders is, ap on_wants is, ap on_advertised is)
 no_call (Piece ms) u n i off e = quiet_input (Piece ms) u n i refl e
 no_call (Deliver k) u n i off e = quiet_input (Deliver k) u n i refl e
 no_call (Lose k) u n i off e = quiet_input (Lose k) u n i refl e
@@ -69,12 +70,13 @@ no_call (Inject t dst a) u n i off e = absurd (cc)
 -- a node that has what another has, but for marks
 pub record IsLeft (f g : Facts) : Type 0 where
   pub senders : g.senders ≡ f.senders
+  pub advertised : g.advertised ≡ f.advertised
   pub wants : AreSameButMarks f.wants g.wants
 
 pub itself : (f : Facts) → IsLeft f f
-itself f = record { senders = refl; wants = record { there = λ k. refl; source = λ k x e. (x, e, record { style = refl; part = refl }, λ on. on) } }
+itself f = record { senders = refl; advertised = refl; wants = record { there = λ k. refl; source = λ k x e. (x, e, record { style = refl; part = refl }, λ on. on) } }
 
-left : (q : ℕ) (s : Step) (u : World) (n : ℕ) (f : Facts) → is_call s ≡ false → IsLeft f (outcome q s u n f).facts
+pub left : (q : ℕ) (s : Step) (u : World) (n : ℕ) (f : Facts) → is_call s ≡ false → IsLeft f (outcome q s u n f).facts
 left q s u n f off = by (input_at s u n) refl
   where
     by : (o : Option Input) → input_at s u n ≡ o → IsLeft f (outcome_of q o s u n f).facts
@@ -83,6 +85,7 @@ left q s u n f off = by (input_at s u n) refl
         let r = no_call s u n i off e in
         record {
           senders = left_as_it_was.senders (node_step (config_of q u.net u.trees n) (config_of q (net_after s u) u.trees n) u.clock (u.clock + ms_of s) i f) r.0;
+          advertised = left_as_it_was.advertised (node_step (config_of q u.net u.trees n) (config_of q (net_after s u) u.trees n) u.clock (u.clock + ms_of s) i f) r.2;
           wants = left_as_it_was.wants (node_step (config_of q u.net u.trees n) (config_of q (net_after s u) u.trees n) u.clock (u.clock + ms_of s) i f) r.1;
         }
 

@@ -13,7 +13,11 @@ pub mod Fronts
 pub mod Same
 pub mod Keeping
 pub mod Calling
+pub mod Advertising
 pub mod Senders
 pub mod Wanted
 pub mod Lines
+pub mod LastRounds
 pub mod WorldDemands
+pub mod WorldAdverts
+pub mod AdvertRows

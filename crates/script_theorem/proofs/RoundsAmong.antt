@@ -4,7 +4,7 @@ use Rattle.std.specs.Prelude.{◌++◌, length}
 use Rattle.std.proofs.lemmas.List.{length-append}
 use Rattle.rsvp_base.specs.Members.{In}
 use Rattle.calm_rounds.specs.Machine.{all_arrived, all_sent, run}
-use Rattle.calm_rounds.specs.Rounds.{Calm, Rounds as CalmRounds, run_rounds}
+use Rattle.calm_rounds.specs.Rounds.{Calm, Rounds as CalmRounds}
 use Rattle.network_model.specs.Bounds.{all_of}
 use Rattle.network_model.specs.Events.{AtNode, ClearNode, CopyAt, DeliverAt, Event, Injects, LoseAt, Pass, Reports, ReportsFlags, ReportsAdverts, Reroutes, Rounds, Traces, Waits, all_steps, rounds}
 use Rattle.tree_model.specs.Networks.{Net}
@@ -13,7 +13,7 @@ use Rattle.network_model.specs.Worlds.{Item, World}
 use Rattle.laws_network.specs.Rounds.{rounds_of}
 use Rattle.laws_network.proofs.Calming.{rounds_is_calm}
 use Rattle.script_theorem.specs.RoundsAmong.{AreRoundsAndWriting, AreRoundsThenWriting, RoundsAmongWritingCount, rounds_among}
-use Rattle.script_theorem.specs.Writing.{only_writes}
+use Rattle.script_theorem.specs.Writing.{OnlyWrite, only_writes}
 use Rattle.script_theorem.proofs.Writing.{idle, joined, run_then}
 
 module _ (q : ℕ) where
@@ -96,3 +96,14 @@ rounds_among_writing_count q (CopyAt k ∷ es) w h = absurd h
 rounds_among_writing_count q (ClearNode n ∷ es) w h = absurd h
 rounds_among_writing_count q (Injects e dst a ∷ es) w h = absurd h
 rounds_among_writing_count q (Reroutes g s hops ∷ es) w h = absurd h
+
+-- and if there are none, only writing is left
+pub none_of_them_waits : (q : ℕ) (es : List Event) (w : World) → AreRoundsAndWriting es → rounds_among es ≡ 0 → OnlyWrite (all_steps q es w)
+none_of_them_waits q es w h none = by c.rounds c.parts c.number
+  where
+    c : AreRoundsThenWriting q w (all_steps q es w) (rounds_among es)
+    c = rounds_among_writing_count q es w h
+
+    by : (rs : List (List Step)) → all_steps q es w ≡ all_of rs ++ c.still → length rs ≡ rounds_among es → OnlyWrite (all_steps q es w)
+    by [] parts number = subst OnlyWrite (sym parts) c.writes
+    by (r ∷ rs) parts number = absurd (omega (arith, number, none))

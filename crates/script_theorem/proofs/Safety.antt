@@ -16,8 +16,8 @@ use Rattle.script_theorem.proofs.Sessions.{a_settled_report_shows_each_session}
 use Rattle.laws_safety.specs.Blockades.{ABlockadeStays, AResvErrTearsNothing, AnAdmissionErrorSetsItsBlockade, EachResvSaysWhatGoesToward}
 use Rattle.laws_safety.specs.Books.{AreBooksWithinCapacity}
 use Rattle.laws_safety.specs.Confirmations.{AConfirmationIsHeld}
-use Rattle.laws_safety.specs.Refusals.{ARefusedCallChangesNothing, ARefusedResvChangesNoReservation, AUnitThatPassesIsBooked, AnUntakenUnitChangesNothing}
-use Rattle.laws_safety.proofs.Arrivals.{a_refused_resv, a_unit_that_passes, an_untaken_unit}
+use Rattle.laws_safety.specs.Refusals.{ARefusedCallChangesNothing, ARefusedResvChangesNoReservation, AResvChangesWhatItTakesAlone, AUnitThatPassesIsBooked, AnUntakenUnitChangesNothing}
+use Rattle.laws_safety.proofs.Arrivals.{a_refused_resv, a_resv_alone, a_unit_that_passes, an_untaken_unit}
 use Rattle.laws_safety.proofs.Books.{books_within}
 use Rattle.laws_safety.proofs.Calls.{a_refused_call}
 use Rattle.laws_safety.proofs.Confirming.{a_confirmation_is_held, each_confirmation_has_begun}
@@ -32,6 +32,7 @@ refusals p fit = record {
   calls = at_every_step ARefusedCallChangesNothing a_refused_call p fit;
   resvs = at_every_step ARefusedResvChangesNoReservation a_refused_resv p fit;
   units = at_every_step AnUntakenUnitChangesNothing an_untaken_unit p fit;
+  alone = at_every_step AResvChangesWhatItTakesAlone a_resv_alone p fit;
 }
 
 blockades : (p : Plan) → IsFitRun p → BlockadePromises p

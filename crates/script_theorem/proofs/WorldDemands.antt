@@ -1,35 +1,45 @@
 -- The world behind the lines of a script has what they ask, so its last report is the demand of the script.
-use Rattle.std.proofs.Common.{◌≡◌, ℕ, ◌+◌, zero, suc, List, [], ◌∷◌, ◌++◌, Option, Some, refl, sym, ap, subst, ◌∙◌, arith}
+use Rattle.std.proofs.Common.{◌≡◌, ℕ, ◌+◌, zero, suc, true, List, [], ◌∷◌, ◌++◌, Option, Some, None, refl, sym, ap, subst, ◌∙◌, arith}
 use Rattle.std.specs.Prelude.{map as each, slice_get}
+use Rattle.std.specs.List.{filter}
+use Rattle.std.specs.Option.{option_and_then, option_map}
 use Rattle.std.proofs.lemmas.List.{append-nil}
 use Rattle.rsvp_base.specs.Members.{In}
-use Rattle.rsvp_base.specs.Table.{get, keys}
+use Rattle.rsvp_base.specs.Sets.{Set}
+use Rattle.rsvp_base.specs.Table.{get, has, keys}
 use Rattle.rsvp_base.specs.TokenBucket.{TokenBucket}
-use Rattle.rsvp_base.proofs.Counts.{found_in}
-use Rattle.rsvp_base.proofs.Members.{in_left, in_right, to_each}
+use Rattle.rsvp_base.proofs.Counts.{found_in, in_set_of, set_of_in}
+use Rattle.rsvp_base.proofs.Filters.{same_test}
+use Rattle.rsvp_base.proofs.Members.{in_filter, in_left, in_right, to_each, to_filter}
+use Rattle.rsvp_base.proofs.SetLaws.{same_set}
 use Rattle.router_rules.specs.Facts.{Facts, SenderKey, sender_keys}
 use Rattle.tree_model.specs.declared.locals.LocalSender.{LocalSender}
 use Rattle.tree_model.specs.declared.locals.LocalWant.{LocalWant}
 use Rattle.tree_model.specs.Goals.{DemandsFit}
-use Rattle.tree_model.specs.Networks.{Net}
+use Rattle.tree_model.specs.Networks.{Net, owner}
 use Rattle.tree_model.specs.Wants.{Locals}
 use Rattle.network_model.specs.Locals.{locals_of, sender_at, senders_from, wants_from}
 use Rattle.network_model.specs.Runs.{first_world, steps_of_run, text_of}
 use Rattle.network_model.specs.Steps.{Report, Step, machine, step}
 use Rattle.network_model.specs.Worlds.{World}
 use Rattle.network_model.proofs.NodeLocals.{node_wants, sender_of_node, want_of_node}
+use Rattle.laws_network.specs.Known.{advertised_at}
+use Rattle.laws_network.proofs.Known.{has_some}
 use Rattle.laws_network.proofs.Runs.{each_world_of_a_run_is_within_bounds}
 use Rattle.network_model.specs.DemandTexts.{demand_text}
 use Rattle.script_grammar.specs.Draft.{Draft, nothing, plan_of, routing}
 use Rattle.script_grammar.specs.Grammar.{IsScript, Leads}
 use Rattle.laws_scripts.proofs.EventLines.{each_script_is_a_fit_run}
-use Rattle.laws_scripts.proofs.SenderLines.{each_script_lets_few_send}
+use Rattle.laws_scripts.proofs.SenderLines.{each_script_lets_few_send, sending_behind}
 use Rattle.script_words.specs.Lines.{text_lines}
+use Rattle.settle_adverts.specs.Adverts.{is_advertised, is_among}
+use Rattle.settle_adverts.specs.Demanded.{advertised_senders}
 use Rattle.script_theorem.specs.Demands.{moment}
 use Rattle.script_theorem.proofs.Demands.{a_settled_report_is_the_demand}
 use Rattle.laws_network.proofs.Calming.{run_append}
 use Rattle.script_theorem.proofs.Writing.{idle}
 use Rattle.script_theorem.specs.Standing.{AskTheSame, ScriptsStand, TheLastReportIsTheDemand, world_behind}
+use Rattle.script_theorem.proofs.Advertising.{AreAdvertised}
 use Rattle.script_theorem.proofs.Keeping.{Stands}
 use Rattle.script_theorem.proofs.Lines.{standing_behind}
 use Rattle.script_theorem.proofs.Same.{same_fit, same_text}
@@ -61,11 +71,50 @@ asks l u h = record {
   );
 }
 
+-- ---- who is advertised at the nodes, as the network tells it
+module _ (u : World) (l : Locals) (ks : Set sender_keys) (h : Stands l u) (a : AreAdvertised ks u) (placed : (x : LocalSender) → In x l.senders → owner u.net.ends x.sender.addr ≡ Some x.node) where
+  abbrev live_keys : List SenderKey
+  live_keys = each (λ x. (x.session, x.sender)) (locals_of u).senders
+
+  told_at : (k : SenderKey) (n : ℕ) (o : Option Facts) → slice_get u.nodes n ≡ o → is_among (option_map (λ f. f.advertised) o) k ≡ true → has ks k ≡ true
+  told_at k n None at e = absurd (cc)
+  told_at k n (Some f) at e = (a.told n f k at e).1
+
+  told_by : (k : SenderKey) (o : Option ℕ) → is_among (option_and_then (advertised_at u) o) k ≡ true → has ks k ≡ true
+  told_by k None e = absurd (cc)
+  told_by k (Some n) e = told_at k n (slice_get u.nodes n) refl e
+
+  forth : (k : SenderKey) → has (advertised_senders u) k ≡ true → has ks k ≡ true
+  forth k e =
+      let i = set_of_in sender_keys (filter (is_advertised u) live_keys) k e in
+      told_by k (owner u.net.ends k.1.addr) (in_filter (is_advertised u) k live_keys i).1
+
+  back : (k : SenderKey) → has ks k ≡ true → has (advertised_senders u) k ≡ true
+  back k e =
+      let r = a.made k e in
+      let t = has_some (get r.1.senders k) (a.told r.0 r.1 k r.2 r.3).0 in
+      let own : owner u.net.ends k.1.addr ≡ Some r.0 = placed (sender_at r.0 k) (h.sender_told r.0 r.1 k t.0 r.2 t.1) in
+      let there : In (sender_at r.0 k) (locals_of u).senders =
+      (let z : 0 + r.0 ≡ r.0 = omega arith in subst (λ (n : ℕ). In (sender_at n k) (senders_from 0 u.nodes)) z (sender_in 0 r.0 u.nodes r.1 k t.0 r.2 t.1)) in
+      let is : is_advertised u k ≡ true =
+      ap (λ (o : Option ℕ). is_among (option_and_then (advertised_at u) o) k) own ∙ ap (λ (o : Option Facts). is_among (option_map (λ f. f.advertised) o) k) r.2 ∙ r.3 in
+      in_set_of sender_keys (filter (is_advertised u) live_keys) k
+      (to_filter (is_advertised u) k live_keys (to_each (λ (x : LocalSender). (x.session, x.sender)) (sender_at r.0 k) (locals_of u).senders there) is)
+
+  advertised_are : advertised_senders u ≡ ks
+  advertised_are = same_set sender_keys (advertised_senders u) ks (λ k. same_test (has (advertised_senders u) k) (has ks k) (forth k) (back k))
+
 pub scripts_stand : ScriptsStand
 scripts_stand bytes d leads =
     let h = standing_behind (text_lines bytes) d leads in
     let within = each_world_of_a_run_is_within_bounds (plan_of d) (each_script_is_a_fit_run bytes (plan_of d) (record { lines = d; leads = leads; says = refl })) in
-    record { net = h.net within; locals = asks d.locals (world_behind d) (h.stands within) }
+    let sending = sending_behind (text_lines bytes) d leads in
+    record {
+      net = h.net within;
+      locals = asks d.locals (world_behind d) (h.stands within);
+      advertised = advertised_are (world_behind d) d.locals _ (h.stands within) (h.advertised within)
+          (λ x i. ap (λ (net : Net). owner net.ends x.sender.addr) (h.net within) ∙ sending.placed x i);
+    }
 
 -- ---- the last report
 module _ (bytes : List ℕ) (d : Draft) (leads : Leads nothing (text_lines bytes) d) (before : List Step) (e : Option ℕ) (parts : steps_of_run (plan_of d) ≡ before ++ Report e ∷ []) where

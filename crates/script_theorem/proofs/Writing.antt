@@ -104,6 +104,10 @@ module _ (q : ℕ) where
   same_net [] u h = refl
   same_net (t ∷ ts) u h = same_net ts (step q t u) h.1 ∙ (idle q t u h.0).net
 
+  pub same_nodes : (ts : List Step) (u : World) → OnlyWrite ts → (run (machine q) ts u).nodes ≡ u.nodes
+  same_nodes [] u h = refl
+  same_nodes (t ∷ ts) u h = same_nodes ts (step q t u) h.1 ∙ (idle q t u h.0).nodes
+
   no_waits : (ts : List Step) (u : World) → OnlyWrite ts → waits (machine q) ts ≡ 0
   no_waits [] u h = refl
   no_waits (t ∷ ts) u h = let first = (idle q t u h.0).no_time in let later = no_waits ts (step q t u) h.1 in omega (arith, first, later)

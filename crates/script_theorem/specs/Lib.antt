@@ -9,3 +9,4 @@ pub mod AdvertReports
 pub mod Theorem
 pub mod Fronts
 pub mod Standing
+pub mod AdvertRows

@@ -21,7 +21,7 @@ use Rattle.script_theorem.specs.Writing.{OnlyWrite}
 use Rattle.laws_safety.specs.Blockades.{ABlockadeStays, AResvErrTearsNothing, AnAdmissionErrorSetsItsBlockade, BlockadesDropNothing, EachResvSaysWhatGoesToward, WhatGoesOnIsBelow}
 use Rattle.laws_safety.specs.Books.{AreBooksWithinCapacity}
 use Rattle.laws_safety.specs.Confirmations.{AConfirmationIsHeld, ConfirmationsHaveBegun}
-use Rattle.laws_safety.specs.Refusals.{ARefusedCallChangesNothing, ARefusedResvChangesNoReservation, AUnitThatPassesIsBooked, AnUntakenUnitChangesNothing}
+use Rattle.laws_safety.specs.Refusals.{ARefusedCallChangesNothing, ARefusedResvChangesNoReservation, AResvChangesWhatItTakesAlone, AUnitThatPassesIsBooked, AnUntakenUnitChangesNothing}
 
 -- ---- self-stabilisation
 -- each report at a settled moment, or behind steps that only write after one, where the demands of that moment fit, appends the text
@@ -47,11 +47,13 @@ pub record IsWorldOf (p : Plan) (w : World) : Type 0 where
 abbrev pub AtEachStep : (ℕ → Step → World → Type 0) → Plan → Type 0
 AtEachStep C p = (ss : List Step) (s : Step) (ts : List Step) → steps_of_run p ≡ ss ++ s ∷ ts → C p.quarter s (run (machine p.quarter) ss (first_world p))
 
--- the refusal of a local call changes nothing, that of a Resv as a whole or of one of its units no reservation
+-- the refusal of a local call changes nothing, that of a Resv as a whole or of one of its units no reservation; and a Resv changes no
+-- reservations of its node but those of its units that are taken
 pub record RefusalsChangeNothing (p : Plan) : Type 0 where
   pub calls : AtEachStep ARefusedCallChangesNothing p
   pub resvs : AtEachStep ARefusedResvChangesNoReservation p
   pub units : AtEachStep AnUntakenUnitChangesNothing p
+  pub alone : AtEachStep AResvChangesWhatItTakesAlone p
 
 pub record BlockadePromises (p : Plan) : Type 0 where
   -- each Resv that is sent asks for exactly what goes toward its hop by its sender's facts after the step

@@ -6,5 +6,6 @@
 #![tactic(auto)]
 
 pub mod reports;
+pub mod rows;
 pub mod theorem;
 pub mod worlds;
