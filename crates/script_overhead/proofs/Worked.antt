@@ -1,5 +1,5 @@
 -- The script of two nodes, line by line, and its run.
-use Rattle.std.proofs.Common.{◌≡◌, ℕ, zero, suc, List, [], ◌∷◌, ◌++◌, length, Bool, true, false, cond, Some, None, sym, refl, ap, subst, ◌∙◌, arith}
+use Rattle.std.proofs.Common.{◌≡◌, ℕ, zero, suc, List, [], ◌∷◌, ◌++◌, length, Bool, true, false, cond, Some, None, inl, ⊎_elim, sym, refl, ap, subst, ◌∙◌, arith}
 use Rattle.std.specs.Prelude.{◌==◌, ◌&&◌, codes}
 use Rattle.std.specs.List.{All}
 use Rattle.rsvp_base.specs.declared.style.StyleKind.{StyleKind}
@@ -16,7 +16,7 @@ use Rattle.tree_model.specs.Networks.{node_of}
 use Rattle.tree_model.specs.Wants.{want}
 use Rattle.tree_model.proofs.Following.{same_number}
 use Rattle.network_model.specs.Bounds.{IsSettled, all_of}
-use Rattle.network_model.specs.Events.{Rounds, all_steps, rounds}
+use Rattle.network_model.specs.Events.{AtNode, Rounds, all_steps, rounds}
 use Rattle.network_model.specs.Runs.{first_world, is_crowded, is_crowded_run, steps_of_run}
 use Rattle.network_model.specs.Steps.{At, Piece, Step, machine, step}
 use Rattle.network_model.specs.ThreeRouters.{first, session as told_session, flow as told_flow}
@@ -48,7 +48,9 @@ use Rattle.script_fit.specs.Begun.{begun_by}
 use Rattle.script_fit.specs.Findings.{IsFindingsOf, IsFindingsText}
 use Rattle.script_fit.specs.Texts.{findings_text, room_line, room_text}
 use Rattle.script_fit.proofs.Sayings.{fit_unsaid}
+use Rattle.settle_refreshes.specs.Plain.{IsPlainEvent}
 use Rattle.settle_refreshes.specs.Refreshes.{HasOnlyRefreshes}
+use Rattle.script_overhead.specs.Plain.{ArePlainEvents, EndsInRounds, EndsPlainly}
 use Rattle.script_overhead.specs.Roomy.{SaysRoomFor, end_of}
 use Rattle.script_overhead.specs.Worked.{APairHasTheRoomThatIsSaid, pair_plan, pair_text}
 
@@ -444,10 +446,40 @@ said text found =
       few = omega arith;
     }
 
+-- ---- what is read of its lines
+plain_event : ArePlainEvents pair_plan.events
+plain_event e i =
+    ⊎_elim (λ (same : e ≡ AtNode 0 (SendAs told_session first (told_flow 1 1 1 1500))). subst IsPlainEvent (sym same) tt)
+    (λ (more : In e (Rounds 28 ∷ [])). ⊎_elim (λ (same : e ≡ Rounds 28). subst IsPlainEvent (sym same) tt) (λ (no : ⊥). absurd no) more) i
+
+plain_end : EndsPlainly pair_plan
+plain_end = record {
+  uncrowded = uncrowded;
+  plain = plain_event;
+  calm = record {
+    before = call ∷ [];
+    rounds = rounds_of 7500 28 begun;
+    parts = ap (λ (z : List Step). call ∷ z) (steps_are 28 begun);
+    calm = calm_rounds 7500 28 begun;
+    enough = let n = (rounds_is_calm 7500 28 begun).number in omega arith;
+  };
+}
+
+last_rounds : EndsInRounds passed
+last_rounds = record {
+  before = AtNode 0 (SendAs told_session first (told_flow 1 1 1 1500)) ∷ [];
+  last = Rounds 28 ∷ [];
+  parts = refl;
+  only = tt;
+  enough = inl (plain_event, omega arith);
+}
+
 pub a_pair_has_the_room_that_is_said : APairHasTheRoomThatIsSaid
 a_pair_has_the_room_that_is_said = record {
   script = record { lines = passed; leads = leads; says = refl };
   ends = record { uncrowded = uncrowded; settled = settled; refreshes = only };
+  plain = plain_end;
+  last = last_rounds;
   said = said;
   none = both.0;
   met = both.1;

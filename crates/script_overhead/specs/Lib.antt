@@ -1,2 +1,3 @@
+pub mod Plain
 pub mod Roomy
 pub mod Worked

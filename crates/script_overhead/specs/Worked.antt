@@ -8,6 +8,7 @@ use Rattle.network_model.specs.ThreeRouters.{first, flow, session}
 use Rattle.laws_network.specs.Beginning.{left_plan}
 use Rattle.script_fit.specs.Findings.{IsFindingsOf}
 use Rattle.script_grammar.specs.Grammar.{IsScript}
+use Rattle.script_overhead.specs.Plain.{EndsInRounds, EndsPlainly}
 use Rattle.script_overhead.specs.Roomy.{EndsSettled, SaysRoomFor, end_of}
 
 abbrev pub pair_text : List ℕ
@@ -21,6 +22,9 @@ pair_plan = record left_plan { stale = []; events = AtNode 0 (SendAs session fir
 pub record APairHasTheRoomThatIsSaid : Type 0 where
   pub script : IsScript pair_text pair_plan
   pub ends : EndsSettled pair_plan
+  -- none of its lines injects or asks for a confirmation, and its last is `rounds 28`
+  pub plain : EndsPlainly pair_plan
+  pub last : EndsInRounds script.lines
   -- whatever else is found in it, there is room for one datagram
   pub said : (text : List ℕ) → IsFindingsOf pair_text text → SaysRoomFor 1 text
   -- nothing is in flight at its end, and one Path when half a period has passed
