@@ -1,4 +1,3 @@
-pub mod LastRounds
 pub mod Answering
 pub mod WholeLines
 pub mod FirstLines

@@ -6,6 +6,8 @@ use Rattle.byte_streams.specs.Reading.{most_bytes}
 use Rattle.script_words.specs.Lines.{text_lines}
 use Rattle.tree_model.specs.Networks.{Net}
 use Rattle.tree_model.specs.Ranks.{longest}
+use Rattle.network_model.specs.Bounds.{IsSettled, to_settle}
+use Rattle.network_model.specs.Events.{Reports, steps_of}
 use Rattle.network_model.specs.Runs.{first_world, is_crowded_run, run_text, steps_of_run, text_of}
 use Rattle.network_model.specs.Steps.{Report, Step, machine}
 use Rattle.network_model.specs.Worlds.{World}
@@ -15,7 +17,9 @@ use Rattle.script_grammar.specs.Grammar.{IsScript, Leads}
 use Rattle.script_grammar.proofs.Scripts.{one_script_law}
 use Rattle.laws_scripts.proofs.EventLines.{each_script_is_a_fit_run}
 use Rattle.laws_grown.specs.ScriptTheorem.Theorem.{HealsItself}
+use Rattle.laws_grown.proofs.ScriptTheorem.LastRounds.{calm_there, only_writes_behind, steps, to_last_round, written_behind}
 use Rattle.laws_grown.proofs.ScriptTheorem.Safety.{first_lines_heal_themselves}
+use Rattle.laws_grown.proofs.ScriptTheorem.WorldAdverts.{rounds_bring_the_adverts, the_last_adverts_are_demanded}
 use Rattle.laws_grown.proofs.ScriptTheorem.WorldDemands.{scripts_stand, the_last_report_is_the_demand}
 use Rattle.laws_grown.specs.ScriptTheorem.Demands.{moment}
 use Rattle.laws_grown.specs.ScriptTheorem.RoundsAmong.{rounds_among}
@@ -29,12 +33,11 @@ use Rattle.script_run.specs.declared.ending.Ending.TheVariants as ending
 use Rattle.script_run.proofs.Spoken.{only_scripts_are_done}
 use Rattle.laws_texts.proofs.Told.{tells_within}
 use Rattle.command_run.specs.Commands.{Replayed, Stands}
-use Rattle.command_run.specs.Healing.{EndsInItsDemand, IsHealingRun, LastReportIsTheDemand, RoundsBringTheDemand}
+use Rattle.command_run.specs.Healing.{EndsInItsDemand, IsHealingRun, LastAdvertsAreDemanded, LastReportIsTheDemand, LastRoundsBringTheAdverts, LastRoundsBringTheDemand}
 use Rattle.command_run.specs.Ran.{Device, HasFailed, ran}
 use Rattle.command_run.specs.Statuses.{status_of}
 use Rattle.command_run.proofs.Answering.{advised_so, or_no_memory}
 use Rattle.command_run.proofs.FirstLines.{ran_first_lines, safe_files}
-use Rattle.command_run.proofs.LastRounds.{only_writes_behind, settled, steps, to_last_round, written_behind}
 use Rattle.command_run.specs.declared.status.Status.TheVariants.{Done}
 
 -- ---- done
@@ -68,7 +71,7 @@ healed_run stands ending.NoMemory old new before after is run = absurd (cc is)
 healed_run stands ending.Crowded old new before after is run = absurd (cc is)
 healed_run stands ending.TooLong old new before after is run = absurd (cc is)
 
--- ---- a report that comes last
+-- ---- a report or an `adverts` line that comes last
 module _ (bytes : List ℕ) (before after : Option (List ℕ)) (run : IsHealingRun bytes before after) (d : Draft) (leads : Leads nothing (text_lines bytes) d) where
   is_script : IsScript bytes (plan_of d)
   is_script = record { lines = d; leads = leads; says = refl }
@@ -76,10 +79,15 @@ module _ (bytes : List ℕ) (before after : Option (List ℕ)) (run : IsHealingR
   same_plan : run.plan ≡ plan_of d
   same_plan = one_script_law bytes run.plan (plan_of d) run.script is_script
 
+  roomy : is_crowded_run (plan_of d) ≡ false
+  roomy = ap is_crowded_run (sym same_plan) ∙ run.roomy
+
+  -- what was appended is this text, if the run of the lines has it
+  wrote : (text : List ℕ) → run_text (plan_of d) ≡ text → Appends before after text
+  wrote text has = subst (λ (t : List ℕ). Appends before after t) (ap run_text same_plan ∙ has) run.wrote
+
   last_settled : LastReportIsTheDemand d before after
-  last_settled ss still e parts settled writes fit =
-      let roomy : is_crowded_run (plan_of d) ≡ false = ap is_crowded_run (sym same_plan) ∙ run.roomy in
-      subst (λ (t : List ℕ). Appends before after t) (ap run_text same_plan ∙ the_last_report_is_the_demand bytes d leads roomy ss still e parts settled writes fit) run.wrote
+  last_settled ss still e parts settled writes fit = wrote _ (the_last_report_is_the_demand bytes d leads roomy ss still e parts settled writes fit)
 
   -- the routing in force is that of the world before the report
   same_net : (ss : List Step) (e : Option ℕ) → steps_of_run (plan_of d) ≡ ss ++ Report e ∷ [] → (moment (plan_of d) ss).net ≡ routing d
@@ -87,18 +95,25 @@ module _ (bytes : List ℕ) (before after : Option (List ℕ)) (run : IsHealingR
       let last = ap (moment (plan_of d)) parts ∙ run_append (machine (plan_of d).quarter) ss (Report e ∷ []) (first_world (plan_of d)) in
       sym (ap (λ (w : World). w.net) last) ∙ (scripts_stand bytes d leads).net
 
-  last_rounds : RoundsBringTheDemand d before after
+  last_rounds : LastRoundsBringTheDemand d before after
   last_rounds es fs e events only enough fit =
       let p = plan_of d in
-      let ss = to_last_round p es fs e events only in
-      let still = written_behind p es fs e events only in
-      let parts = steps p es fs e events only in
+      let single : (w : World) → steps_of p.quarter (Reports e) w ≡ Report e ∷ [] = λ w. refl in
+      let ss = to_last_round p es fs [] (Reports e) (Report e) single events only in
+      let still = written_behind p es fs [] (Reports e) (Report e) single events only in
+      let parts = steps p es fs [] (Reports e) (Report e) single events only in
       let many : 13 * longest (moment p (ss ++ still)).net + 13 ≤ rounds_among fs = subst (λ (net : Net). 13 * longest net + 13 ≤ rounds_among fs) (sym (same_net (ss ++ still) e parts)) enough in
-      let calm = settled p es fs e events only (each_script_is_a_fit_run bytes p is_script) many in
-      (text_of p.quarter d.names (ss ++ still) (first_world p), last_settled ss still e parts calm (only_writes_behind p es fs e events only) fit)
+      let calm : IsSettled p.quarter (first_world p) ss = calm_there p es fs [] (Reports e) (Report e) single events only to_settle (each_script_is_a_fit_run bytes p is_script) many in
+      (text_of p.quarter d.names (ss ++ still) (first_world p), last_settled ss still e parts calm (only_writes_behind p es fs [] (Reports e) (Report e) single events only) fit)
+
+  last_adverts : LastAdvertsAreDemanded d before after
+  last_adverts ss still later parts settled writes only = wrote _ (the_last_adverts_are_demanded bytes d leads roomy ss still later parts settled writes only)
+
+  last_advert_rounds : LastRoundsBringTheAdverts d before after
+  last_advert_rounds es fs gs events rounds enough writing none = wrote _ (rounds_bring_the_adverts bytes d leads roomy es fs gs events rounds enough writing none)
 
   ends_in_its_demand : EndsInItsDemand d before after
-  ends_in_its_demand = record { settled = last_settled; rounds = last_rounds }
+  ends_in_its_demand = record { settled = last_settled; rounds = last_rounds; adverts = last_adverts; advert_rounds = last_advert_rounds }
 
 pub last_report : (left before after : Option (List ℕ)) → IfSome left (λ bytes. IsHealingRun bytes before after)
     → IfSome left (λ bytes. (d : Draft) → Leads nothing (text_lines bytes) d → EndsInItsDemand d before after)

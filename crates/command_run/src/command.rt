@@ -8,6 +8,7 @@ ghost use Rattle.command_run.specs.Shown.{ShowsTask};
 ghost use Rattle.command_run.specs.Tasks.{task_of};
 
 use crate::demanding::demand;
+use crate::ended::Ended;
 use crate::growing::grow;
 use crate::policing::police_packets;
 use crate::replaying::replay;
@@ -17,7 +18,7 @@ use crate::status::Status;
 use crate::task::Task;
 use byte_streams::{Sink, Source};
 use command_line::{NoOrder, Order, read_order};
-use network_replay::{Watch, World};
+use network_replay::Watch;
 use node_stream::Serves;
 use script_demand::Asks;
 use script_run::Opens;
@@ -29,9 +30,9 @@ use std::alloc::Global;
 /// nothing, grows the network of a seed, runs it and writes a summary of the run, whose last line is `equal yes`; `node` reads frames,
 /// of which the first opens a router, and writes the frames with which the router answers each; `police` reads a
 /// flow and its packets, and writes for each whether it passes. Where a script with
-/// an event was replayed to its end, and where a network was grown and run to its end, `last` holds the network in which the run
-/// ended; else it stays empty. `watch` sees all that happens in a replay or a growing. `advice` becomes the text that says what is wrong
-/// with the bad line, or by which line a replay is crowded; else it is empty.
+/// an event was replayed to its end, and where a network was grown and run to its end, `ended` holds the network in which the run
+/// ended; else it holds none still. Its advice becomes the text that says what is wrong with the bad line, or by which line a replay is
+/// crowded; else it is empty. `watch` sees all that happens in a replay or a growing.
 ///
 /// `Usage` comes first: the words are no command, and nothing is read or written. How a replay ends is said at `replay`, how the
 /// demand of a script ends at `demand`, how showing ends at `show_messages`, how growing ends at `grow`, how the service of a
@@ -43,14 +44,13 @@ pub fn run_command<C: Asks + Drop, R: Opens + Serves, S: Source, K: Sink, W: Wat
     source: &mut S,
     sink: &mut K,
     watch: &mut W,
-    last: &mut Option<World<R>>,
-    advice: &mut Vec<u8>,
+    ended: &mut Ended<R>,
 ) -> Status
     requires first { C.lines checker ≡ nothing }
-    requires empty { last.old ≡ None }
+    requires empty { ended.old.last ≡ None }
     // What the words order, a row a task.
     ensures does { Does R.seen (task_of (map string_bytes words.now.items))
-        (ran result (device S.left S.faults source.old source.new) (device K.holds K.faults sink.old sink.new) advice.new.items) last.new }
+        (ran result (device S.left S.faults source.old source.new) (device K.holds K.faults sink.old sink.new) ended.new.advice.items) ended.new.last }
     // Where it is done, all that there is to be seen of what was run was shown, in order, and nothing else.
     ensures told { result ≡ Status.Done → ShowsTask W.saw watch.old watch.new (task_of (map string_bytes words.now.items)) (S.left source.old) }
     // Whatever they order.
@@ -60,18 +60,16 @@ pub fn run_command<C: Asks + Drop, R: Opens + Serves, S: Source, K: Sink, W: Wat
     ensures no_read_fault { result ≢ Status.ReadFault → S.faults source.new ≡ S.faults source.old }
     ensures write_fault { result ≡ Status.WriteFault → Rose (K.faults sink.old) (K.faults sink.new) }
     ensures no_write_fault { result ≢ Status.WriteFault → K.faults sink.new ≡ K.faults sink.old }
-    ensures empty { result ≢ Status.Done → last.new ≡ None }
+    ensures empty { result ≢ Status.Done → ended.new.last ≡ None }
 {
-    advice.clear();
+    ended.advice.clear();
     match task_of(alloc, words) {
-        Ok(Task::Replay) => {
-            replay::<C, R, S, K, W>(alloc, checker, source, sink, watch, last, advice)
-        }
-        Ok(Task::Demand) => demand(alloc, checker, source, sink, advice),
-        Ok(Task::Show) => show_messages(alloc, source, sink, advice),
-        Ok(Task::Grow { seed }) => grow(alloc, seed, sink, watch, last),
-        Ok(Task::Node) => serve_router::<R, S, K>(alloc, source, sink, advice),
-        Ok(Task::Police) => police_packets(alloc, source, sink, advice),
+        Ok(Task::Replay) => { replay::<C, R, S, K, W>(alloc, checker, source, sink, watch, ended) }
+        Ok(Task::Demand) => demand(alloc, checker, source, sink, &mut ended.advice),
+        Ok(Task::Show) => show_messages(alloc, source, sink, &mut ended.advice),
+        Ok(Task::Grow { seed }) => grow(alloc, seed, sink, watch, &mut ended.last),
+        Ok(Task::Node) => serve_router::<R, S, K>(alloc, source, sink, &mut ended.advice),
+        Ok(Task::Police) => police_packets(alloc, source, sink, &mut ended.advice),
         Err(NoOrder::Usage) => Status::Usage,
         Err(NoOrder::NoMemory) => Status::NoMemory,
     }

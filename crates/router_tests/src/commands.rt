@@ -3,7 +3,7 @@ use byte_streams::{MemorySink, MemorySource, PlainSink, PlainSource, Sink, Sourc
 use network_model::Event;
 use network_replay::{Router, World};
 use router_rules::Heard;
-use rsvpd_run::{Status, Unwatched, Watch, run};
+use rsvpd_run::{Ended, Status, Unwatched, Watch, run};
 use std::alloc::{AllocError, Global};
 use std::test::Fail;
 
@@ -318,10 +318,9 @@ fn ending<S: Source, K: Sink, W: Watch>(
     watch: &mut W,
 ) -> Result<(Status, Vec<u8>), AllocError> {
     let words = words(alloc, list)?;
-    let mut last = None;
-    let mut advice = Vec::new(alloc);
-    let status = run(alloc, &words, source, sink, watch, &mut last, &mut advice);
-    Ok((status, advice))
+    let mut ended = Ended::new(alloc);
+    let status = run(alloc, &words, source, sink, watch, &mut ended);
+    Ok((status, ended.advice))
 }
 
 // Whether a status has this number and text.

@@ -7,26 +7,18 @@
 #![tactic(auto)]
 
 use byte_streams::{StdSink, StdSource};
-use rsvpd_run::{Noting, Progress, Status, run};
+use rsvpd_run::{Ended, Noting, Progress, Status, run};
 use std::env;
 use std::io::{self, BufReader};
 use std::process::ExitCode;
 
 fn main(rt: HostRuntime) -> ExitCode {
-    let mut advice = Vec::new(rt.alloc());
     let mut unread = None;
     let mut unwritten = None;
     let mut progress = Progress::open(rt);
-    let status = match words(&rt) {
-        Ok(words) => run_words(
-            &rt,
-            &words,
-            &mut unread,
-            &mut unwritten,
-            &mut progress,
-            &mut advice,
-        ),
-        Err(status) => status,
+    let (status, advice) = match words(&rt) {
+        Ok(words) => run_words(&rt, &words, &mut unread, &mut unwritten, &mut progress),
+        Err(status) => (status, Vec::new(rt.alloc())),
     };
     progress.clear();
     // The status says how the run ended, also where its text cannot be printed.
@@ -39,31 +31,31 @@ fn main(rt: HostRuntime) -> ExitCode {
     ExitCode::from(status.code())
 }
 
-// Runs the task of these words from standard input to standard output. The input is read ahead, so that a frame or a line takes no
-// call of the system of its own; the output is written as it comes. What the system said of a stream that failed is kept.
+// Runs the task of these words from standard input to standard output, and says how it ended, with what it advises. The input is read
+// ahead, so that a frame or a line takes no call of the system of its own; the output is written as it comes. What the system said of
+// a stream that failed is kept.
 fn run_words(
     rt: &HostRuntime,
     words: &Vec<String>,
     unread: &mut Option<io::Error>,
     unwritten: &mut Option<io::Error>,
     progress: &mut Progress,
-    advice: &mut Vec<u8>,
-) -> Status {
+) -> (Status, Vec<u8>) {
+    let mut ended = Ended::new(rt.alloc());
     let Ok(input) = BufReader::new(rt.alloc(), Noting::new(rt.stdin(), unread)) else {
-        return Status::NoMemory;
+        return (Status::NoMemory, ended.advice);
     };
     let mut source = StdSource::new(input);
     let mut sink = StdSink::new(Noting::new(rt.stdout(), unwritten));
-    let mut last = None;
-    run(
+    let status = run(
         rt.alloc(),
         words,
         &mut source,
         &mut sink,
         progress,
-        &mut last,
-        advice,
-    )
+        &mut ended,
+    );
+    (status, ended.advice)
 }
 
 // The words of the command line after the program's name. `Usage`: one is not UTF-8, or they cannot be had.

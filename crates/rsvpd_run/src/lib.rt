@@ -14,4 +14,4 @@ pub use program::run;
 pub use progress::Progress;
 
 // For the callers of `run`.
-pub use command_run::{Status, Unwatched, Watch};
+pub use command_run::{Ended, Status, Unwatched, Watch};

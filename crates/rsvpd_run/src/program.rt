@@ -8,9 +8,8 @@ ghost use Rattle.command_run.specs.Tasks.{task_of};
 ghost use Rattle.live_router.specs.SeenNode.{seen_node};
 
 use byte_streams::{Sink, Source};
-use command_run::{Status, Watch, run_command};
+use command_run::{Ended, Status, Watch, run_command};
 use live_router::LiveRouter;
-use network_replay::World;
 use script_checker::Checker;
 use std::alloc::Global;
 
@@ -22,13 +21,12 @@ pub fn run<S: Source, K: Sink, W: Watch>(
     source: &mut S,
     sink: &mut K,
     watch: &mut W,
-    last: &mut Option<World<LiveRouter>>,
-    advice: &mut Vec<u8>,
+    ended: &mut Ended<LiveRouter>,
 ) -> Status
-    requires empty { last.old ≡ None }
+    requires empty { ended.old.last ≡ None }
     // What the words order, a row a task.
     ensures does { Does seen_node (task_of (map string_bytes words.now.items))
-        (ran result (device S.left S.faults source.old source.new) (device K.holds K.faults sink.old sink.new) advice.new.items) last.new }
+        (ran result (device S.left S.faults source.old source.new) (device K.holds K.faults sink.old sink.new) ended.new.advice.items) ended.new.last }
     // Where it is done, all that there is to be seen of what was run was shown, in order, and nothing else.
     ensures told { result ≡ Status.Done → ShowsTask W.saw watch.old watch.new (task_of (map string_bytes words.now.items)) (S.left source.old) }
     // Whatever they order.
@@ -38,12 +36,12 @@ pub fn run<S: Source, K: Sink, W: Watch>(
     ensures no_read_fault { result ≢ Status.ReadFault → S.faults source.new ≡ S.faults source.old }
     ensures write_fault { result ≡ Status.WriteFault → Rose (K.faults sink.old) (K.faults sink.new) }
     ensures no_write_fault { result ≢ Status.WriteFault → K.faults sink.new ≡ K.faults sink.old }
-    ensures empty { result ≢ Status.Done → last.new ≡ None }
+    ensures empty { result ≢ Status.Done → ended.new.last ≡ None }
 {
-    advice.clear();
+    ended.advice.clear();
     match Checker::open(alloc) {
         Ok(checker) => run_command::<Checker, LiveRouter, S, K, W>(
-            alloc, words, checker, source, sink, watch, last, advice,
+            alloc, words, checker, source, sink, watch, ended,
         ),
         Err(_) => Status::NoMemory,
     }
