@@ -44,7 +44,9 @@ use Rattle.laws_scripts.proofs.Leading.{led}
 use Rattle.laws_scripts.proofs.LeftOverLines.{fit_plan_behind, Fitting, fitting_first, fitting_line, some_named, sound}
 use Rattle.laws_scripts.proofs.Senders.{not_empty}
 use Rattle.tree_routing.proofs.ValidReroutes.{valid_rerouted}
-use Rattle.laws_scripts.proofs.Words.{Formed, formed, IsWantForm, length_each}
+use Rattle.laws_scripts.proofs.Words.{Formed, formed}
+use Rattle.script_grammar.proofs.LineForms.{IsWantForm}
+use Rattle.std.proofs.lemmas.List.{length-map}
 
 -- ---- events one after another
 nets_then : List Event → Net → Net
@@ -103,7 +105,7 @@ module _ (d : Draft) (h : Goes d) where
   fit_list Wild words form few = tt
   fit_list Fixed words form few = tt
   fit_list Shared words form few =
-      let size = length_each sender_value words in
+      let size = length-map words sender_value in
       (some_named (sender_list words) (omega (arith, form, size)), few)
 
   -- ---- what is injected

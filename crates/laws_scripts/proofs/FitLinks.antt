@@ -14,7 +14,8 @@ use Rattle.script_grammar.specs.Grammar.{Leads}
 use Rattle.laws_scripts.specs.Networks.{HasFitLinks}
 use Rattle.laws_scripts.specs.Scripts.{EachLinkHasItsEnds}
 use Rattle.laws_scripts.proofs.Leading.{led}
-use Rattle.laws_scripts.proofs.Words.{Formed, formed, length_each}
+use Rattle.laws_scripts.proofs.Words.{Formed, formed}
+use Rattle.std.proofs.lemmas.List.{length-map}
 
 pub FitLinks : Draft → Type 0
 FitLinks d = HasFitLinks d.net
@@ -35,7 +36,7 @@ fit_links_line d (line.Link names) new h form adds =
     (λ (j : In l (rising (link_value d names) ∷ [])).
     ⊎_elim
     (λ (e : l ≡ rising (link_value d names)).
-    let size : length l ≡ length names = ap length e ∙ rising_length (link_value d names) ∙ length_each (end_number d) names in
+    let size : length l ≡ length names = ap length e ∙ rising_length (link_value d names) ∙ length-map names (end_number d) in
     let some = form.0 in
     let few = form.1 in
     (omega (arith, size, some), omega (arith, size, few)))

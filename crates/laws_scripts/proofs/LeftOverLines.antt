@@ -46,7 +46,9 @@ use Rattle.laws_scripts.specs.Scripts.{EachScriptLeavesFitFacts}
 use Rattle.laws_scripts.proofs.DeclaredLines.{place_inside, valid_behind}
 use Rattle.laws_scripts.proofs.HostLines.{hosts_behind}
 use Rattle.laws_scripts.proofs.Leading.{led}
-use Rattle.laws_scripts.proofs.Words.{Formed, formed, IsResvForm, length_each}
+use Rattle.laws_scripts.proofs.Words.{Formed, formed}
+use Rattle.script_grammar.proofs.LineForms.{IsResvForm}
+use Rattle.std.proofs.lemmas.List.{length-map}
 
 abbrev quarter : Draft → ℕ
 quarter d = period_of d / 4
@@ -105,9 +107,9 @@ module _ (d : Draft) (h : Fitting d) (ts : List (Addr × Addr)) where
   only_one x y (a ∷ xs) one i j = one_of x y a xs one i j
 
   some_words : (st : StyleKind) (words : List SenderWord) → IsResvForm st words → 0 < length (sender_list words)
-  some_words Wild words form = let some = form.0 in let size = length_each sender_value words in omega (arith, some, size)
-  some_words Fixed words form = let size = length_each sender_value words in omega (arith, form, size)
-  some_words Shared words form = let size = length_each sender_value words in omega (arith, form, size)
+  some_words Wild words form = let some = form.0 in let size = length-map words sender_value in omega (arith, some, size)
+  some_words Fixed words form = let size = length-map words sender_value in omega (arith, form, size)
+  some_words Shared words form = let size = length-map words sender_value in omega (arith, form, size)
 
   names_style : (st : StyleKind) (words : List SenderWord) → IsResvForm st words → (s : Sender) → has (senders_value words) s ≡ true → name_of st s ≡ s
   names_style Wild words form s there =

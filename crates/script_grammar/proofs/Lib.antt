@@ -2,6 +2,7 @@ mod Digits
 mod ListRanges
 pub mod FoundFaults
 pub mod Happening
+pub mod LineForms
 pub mod Lifetimes
 pub mod Pairs
 pub mod Scripts
