@@ -1,28 +1,17 @@
 -- What is promised of a replay, by how its run ended: of a script that was replayed to its end by the theorem.
-use Rattle.std.proofs.Common.{◌≡◌, ℕ, ◌+◌, ◌*◌, ◌≤◌, List, [], ◌∷◌, ◌++◌, Option, None, Some, length, false, refl, sym, ap, subst, ◌∙◌}
+use Rattle.std.proofs.Common.{◌≡◌, ℕ, ◌≤◌, List, Option, None, Some, length, false, refl, sym, ap, subst, ◌∙◌}
 use Rattle.std.specs.Prelude.{◌≢◌, IfSome}
 use Rattle.std.specs.Io.KnownBytes.{Appends}
 use Rattle.byte_streams.specs.Reading.{most_bytes}
 use Rattle.script_words.specs.Lines.{text_lines}
-use Rattle.tree_model.specs.Networks.{Net}
-use Rattle.tree_model.specs.Ranks.{longest}
-use Rattle.network_model.specs.Bounds.{IsSettled, to_settle}
-use Rattle.network_model.specs.Events.{Reports, steps_of}
-use Rattle.network_model.specs.Runs.{first_world, is_crowded_run, run_text, steps_of_run, text_of}
-use Rattle.network_model.specs.Steps.{Report, Step, machine}
-use Rattle.network_model.specs.Worlds.{World}
-use Rattle.laws_network.proofs.Calming.{run_append}
-use Rattle.script_grammar.specs.Draft.{Draft, nothing, plan_of, routing}
+use Rattle.network_model.specs.Runs.{is_crowded_run, run_text}
+use Rattle.script_grammar.specs.Draft.{Draft, nothing, plan_of}
 use Rattle.script_grammar.specs.Grammar.{IsScript, Leads}
 use Rattle.script_grammar.proofs.Scripts.{one_script_law}
-use Rattle.laws_scripts.proofs.EventLines.{each_script_is_a_fit_run}
 use Rattle.laws_grown.specs.ScriptTheorem.Theorem.{HealsItself}
-use Rattle.laws_grown.proofs.ScriptTheorem.LastRounds.{calm_there, only_writes_behind, steps, to_last_round, written_behind}
 use Rattle.laws_grown.proofs.ScriptTheorem.Safety.{first_lines_heal_themselves}
 use Rattle.laws_grown.proofs.ScriptTheorem.WorldAdverts.{rounds_bring_the_adverts, the_last_adverts_are_demanded}
-use Rattle.laws_grown.proofs.ScriptTheorem.WorldDemands.{scripts_stand, the_last_report_is_the_demand}
-use Rattle.laws_grown.specs.ScriptTheorem.Demands.{moment}
-use Rattle.laws_grown.specs.ScriptTheorem.RoundsAmong.{rounds_among}
+use Rattle.laws_grown.proofs.ScriptTheorem.WorldDemands.{rounds_bring_the_demand, the_last_report_is_the_demand}
 use Rattle.network_replay.specs.Agreeing.{NetworkState}
 use Rattle.network_replay.specs.Following.{Seen}
 use Rattle.script_run.specs.Advised.{IsAdvised as IsEndAdvised}
@@ -71,7 +60,7 @@ healed_run stands ending.NoMemory old new before after is run = absurd (cc is)
 healed_run stands ending.Crowded old new before after is run = absurd (cc is)
 healed_run stands ending.TooLong old new before after is run = absurd (cc is)
 
--- ---- a report or an `adverts` line that comes last
+-- ---- a report or an `adverts` line behind which the script only writes
 module _ (bytes : List ℕ) (before after : Option (List ℕ)) (run : IsHealingRun bytes before after) (d : Draft) (leads : Leads nothing (text_lines bytes) d) where
   is_script : IsScript bytes (plan_of d)
   is_script = record { lines = d; leads = leads; says = refl }
@@ -87,24 +76,10 @@ module _ (bytes : List ℕ) (before after : Option (List ℕ)) (run : IsHealingR
   wrote text has = subst (λ (t : List ℕ). Appends before after t) (ap run_text same_plan ∙ has) run.wrote
 
   last_settled : LastReportIsTheDemand d before after
-  last_settled ss still e parts settled writes fit = wrote _ (the_last_report_is_the_demand bytes d leads roomy ss still e parts settled writes fit)
-
-  -- the routing in force is that of the world before the report
-  same_net : (ss : List Step) (e : Option ℕ) → steps_of_run (plan_of d) ≡ ss ++ Report e ∷ [] → (moment (plan_of d) ss).net ≡ routing d
-  same_net ss e parts =
-      let last = ap (moment (plan_of d)) parts ∙ run_append (machine (plan_of d).quarter) ss (Report e ∷ []) (first_world (plan_of d)) in
-      sym (ap (λ (w : World). w.net) last) ∙ (scripts_stand bytes d leads).net
+  last_settled ss still later e parts settled writes only fit = wrote _ (the_last_report_is_the_demand bytes d leads roomy ss still later e parts settled writes only fit)
 
   last_rounds : LastRoundsBringTheDemand d before after
-  last_rounds es fs e events only enough fit =
-      let p = plan_of d in
-      let single : (w : World) → steps_of p.quarter (Reports e) w ≡ Report e ∷ [] = λ w. refl in
-      let ss = to_last_round p es fs [] (Reports e) (Report e) single events only in
-      let still = written_behind p es fs [] (Reports e) (Report e) single events only in
-      let parts = steps p es fs [] (Reports e) (Report e) single events only in
-      let many : 13 * longest (moment p (ss ++ still)).net + 13 ≤ rounds_among fs = subst (λ (net : Net). 13 * longest net + 13 ≤ rounds_among fs) (sym (same_net (ss ++ still) e parts)) enough in
-      let calm : IsSettled p.quarter (first_world p) ss = calm_there p es fs [] (Reports e) (Report e) single events only to_settle (each_script_is_a_fit_run bytes p is_script) many in
-      (text_of p.quarter d.names (ss ++ still) (first_world p), last_settled ss still e parts calm (only_writes_behind p es fs [] (Reports e) (Report e) single events only) fit)
+  last_rounds es fs gs e events rounds enough writing none fit = wrote _ (rounds_bring_the_demand bytes d leads roomy es fs gs e events rounds enough writing none fit)
 
   last_adverts : LastAdvertsAreDemanded d before after
   last_adverts ss still later parts settled writes only = wrote _ (the_last_adverts_are_demanded bytes d leads roomy ss still later parts settled writes only)

@@ -51,8 +51,8 @@ module _ {R : Type 0} (see : Seen R) (last : Option (NetworkState R)) where
     pub advised : (bytes : List ℕ) → r.source.old ≡ Some bytes → IsAdvised r.status bytes r.advice
     -- a script that was replayed to its end heals itself
     pub healed : r.status ≡ Done → IfSome r.source.old (λ bytes. IsHealingRun bytes r.sink.old r.sink.new)
-    -- a report that comes last, once all has settled, is what `demand` writes of the script, but for the last line; and an `adverts` line
-    -- behind which it only writes, once advertisements have settled, has what the lines say
+    -- once all has settled, a report behind which the script only writes is what `demand` writes of the script, but for the last line; and
+    -- once advertisements have settled, such an `adverts` line has what the lines say
     pub last_report : r.status ≡ Done → IfSome r.source.old (λ bytes. (d : Draft) → Leads nothing (text_lines bytes) d → EndsInItsDemand d r.sink.old r.sink.new)
     -- however it ended, no whole line that was written says of an end that it holds more than its capacity
     pub within_capacity : WritesWithinCapacity r.sink.old r.sink.new

@@ -1,6 +1,6 @@
--- What a replay wrote, by the theorem: the text of a run that heals itself, in which a report that comes last is the demand of the script,
--- and an `adverts` line behind which the script only writes has what its lines say.
-use Rattle.std.specs.Prelude.{◌≡◌, ℕ, ◌+◌, ◌*◌, ◌≤◌, false, List, [], ◌∷◌, ◌++◌, Option}
+-- What a replay wrote, by the theorem: the text of a run that heals itself, in which, behind enough calm rounds, a report behind which
+-- the script only writes is the demand of the script, and such an `adverts` line has what its lines say.
+use Rattle.std.specs.Prelude.{◌≡◌, ℕ, ◌+◌, ◌*◌, ◌≤◌, false, List, ◌∷◌, ◌++◌, Option}
 use Rattle.std.specs.Io.KnownBytes.{Appends}
 use Rattle.tree_model.specs.Goals.{DemandsFit}
 use Rattle.tree_model.specs.Ranks.{longest}
@@ -31,23 +31,26 @@ pub record IsHealingRun (bytes : List ℕ) (before after : Option (List ℕ)) : 
   pub wrote : Appends before after (run_text plan)
   pub heals : HealsItself plan
 
--- ---- a report that comes last
--- where what the lines ask fits, the text that was appended ends in the demand of the script: what `demand` writes of it, but for the
--- last line
+-- ---- a report behind which the script only writes
+-- where what the lines ask fits, the text that was appended is that of the steps before the report, then what `demand` writes of the
+-- script but for the last line, and then the text of the steps behind the report, if there are any
 
 -- at a settled moment, or behind steps that only write after one
 abbrev pub LastReportIsTheDemand : Draft → Option (List ℕ) → Option (List ℕ) → Type 0
 LastReportIsTheDemand d before after =
-    (ss still : List Step) (e : Option ℕ) → steps_of_run (plan_of d) ≡ (ss ++ still) ++ Report e ∷ []
-    → IsSettled (plan_of d).quarter (first_world (plan_of d)) ss → OnlyWrite still → DemandsFit (routing d) d.locals
-    → Appends before after (text_of (plan_of d).quarter d.names (ss ++ still) (first_world (plan_of d)) ++ demand_text d.names (routing d) d.locals e)
+    (ss still later : List Step) (e : Option ℕ) → steps_of_run (plan_of d) ≡ (ss ++ still) ++ Report e ∷ later → IsSettled (plan_of d).quarter (first_world (plan_of d)) ss → OnlyWrite still
+    → OnlyWrite later → DemandsFit (routing d) d.locals
+    → Appends before after (text_of (plan_of d).quarter d.names (ss ++ still) (first_world (plan_of d))
+    ++ (demand_text d.names (routing d) d.locals e ++ text_of (plan_of d).quarter d.names later (step (plan_of d).quarter (Report e) (moment (plan_of d) (ss ++ still)))))
 
 -- behind at least 13 H + 13 rounds, H the longest chain of hops of the routing in force: in one line `rounds n`, or in several, among
 -- lines that only write
 abbrev pub LastRoundsBringTheDemand : Draft → Option (List ℕ) → Option (List ℕ) → Type 0
 LastRoundsBringTheDemand d before after =
-    (es fs : List Event) (e : Option ℕ) → d.events ≡ es ++ (fs ++ Reports e ∷ []) → AreRoundsAndWriting fs → 13 * longest (routing d) + 13 ≤ rounds_among fs → DemandsFit (routing d) d.locals
-    → (front : List ℕ) × Appends before after (front ++ demand_text d.names (routing d) d.locals e)
+    (es fs gs : List Event) (e : Option ℕ) → d.events ≡ es ++ (fs ++ Reports e ∷ gs) → AreRoundsAndWriting fs → 13 * longest (routing d) + 13 ≤ rounds_among fs
+    → AreRoundsAndWriting gs → rounds_among gs ≡ 0 → DemandsFit (routing d) d.locals
+    → Appends before after (events_text d (es ++ fs) (first_world (plan_of d))
+    ++ (demand_text d.names (routing d) d.locals e ++ events_text d gs (step (plan_of d).quarter (Report e) (world_after d (es ++ fs)))))
 
 -- ---- an `adverts` line behind which the script only writes
 -- whether or not what the lines ask fits, the text that was appended is that of the steps before the line, then the advertisements of the

@@ -4,7 +4,6 @@ use Rattle.std.specs.Prelude.{◌++◌, length}
 use Rattle.rsvp_base.specs.declared.session.Session.{Session}
 use Rattle.calm_rounds.specs.Hold.{Visited}
 use Rattle.calm_rounds.specs.Machine.{run}
-use Rattle.calm_rounds.specs.Rounds.{run_rounds}
 use Rattle.calm_rounds.proofs.Holding.{hold_end}
 use Rattle.tree_model.specs.Goals.{DemandsFit}
 use Rattle.tree_model.specs.Networks.{Net}
@@ -22,6 +21,7 @@ use Rattle.laws_network.proofs.Runs.{each_world_of_a_run_is_within_bounds}
 use Rattle.settle_network.specs.SettleResvs.Sessions.{SessionFits}
 use Rattle.settle_network.specs.Settled.{HasSettled}
 use Rattle.settle_network.proofs.RunsSettle.{a_run_settles}
+use Rattle.settle_network.proofs.Settled.{run_all}
 use Rattle.script_theorem.specs.Demands.{ASettledReportIsTheDemand, moment}
 use Rattle.script_theorem.proofs.Texts.{report_is_the_demand}
 use Rattle.script_theorem.proofs.Writing.{a_moment_stays_calm, joined, run_then}
@@ -49,10 +49,6 @@ bounds_at : (q : ℕ) (ss ts : List Step) (w : World) → Visited (machine q) (A
 bounds_at q [] [] w v = v
 bounds_at q [] (t ∷ ts) w v = v.0
 bounds_at q (s ∷ ss) ts w v = bounds_at q ss ts (step q s w) v.1
-
-run_all : (q : ℕ) (rs : List (List Step)) (w : World) → run (machine q) (all_of rs) w ≡ run_rounds (machine q) rs w
-run_all q [] w = refl
-run_all q (r ∷ rs) w = run_then q r (all_of rs) w ∙ run_all q rs (run (machine q) r w)
 
 -- ---- each moment of a run is within bounds
 pub bounds_there : (p : Plan) → IsFitRun p → (ss ts : List Step) → steps_of_run p ≡ ss ++ ts → AreBounds p.quarter (moment p ss)

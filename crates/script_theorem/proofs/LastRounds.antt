@@ -2,9 +2,7 @@
 -- change in the rounds, and where they are enough together the step is made at a calm moment.
 use Rattle.std.proofs.Common.{◌≡◌, ℕ, ◌≤◌, List, [], ◌∷◌, ◌++◌, refl, sym, ap, subst, ◌∙◌, arith, append_assoc}
 use Rattle.std.specs.Prelude.{length}
-use Rattle.calm_rounds.specs.Hold.{Visited}
 use Rattle.calm_rounds.specs.Machine.{run}
-use Rattle.calm_rounds.specs.Rounds.{run_rounds}
 use Rattle.calm_rounds.proofs.Holding.{hold_end}
 use Rattle.tree_model.specs.Ranks.{longest}
 use Rattle.network_model.specs.Bounds.{AreBounds, EndsInCalm, all_of}
@@ -17,14 +15,15 @@ use Rattle.laws_network.specs.Runs.{IsFitRun}
 use Rattle.laws_network.proofs.Calming.{run_append}
 use Rattle.laws_network.proofs.Keeping.{calm_rounds_keep_bounds}
 use Rattle.laws_network.proofs.Known.{known_hold}
-use Rattle.laws_network.proofs.Runs.{each_world_of_a_run_is_within_bounds}
+use Rattle.settle_network.proofs.Settled.{run_all}
 use Rattle.script_theorem.specs.RoundsAmong.{AreRoundsAndWriting, AreRoundsThenWriting, rounds_among}
 use Rattle.script_theorem.specs.Writing.{OnlyWrite}
+use Rattle.script_theorem.proofs.Demands.{bounds_there}
 use Rattle.script_theorem.proofs.RoundsAmong.{rounds_among_writing_count}
 use Rattle.script_theorem.proofs.Writing.{same_net}
 
 module _ (q : ℕ) where
-  steps_on : (es fs : List Event) (w : World) → all_steps q (es ++ fs) w ≡ all_steps q es w ++ all_steps q fs (run (machine q) (all_steps q es w) w)
+  pub steps_on : (es fs : List Event) (w : World) → all_steps q (es ++ fs) w ≡ all_steps q es w ++ all_steps q fs (run (machine q) (all_steps q es w) w)
   steps_on [] fs w = refl
   steps_on (e ∷ es) fs w =
       let here = steps_of q e w in
@@ -33,15 +32,6 @@ module _ (q : ℕ) where
       ap (λ (ss : List Step). here ++ ss) (steps_on es fs next)
       ∙ sym (append_assoc here there (all_steps q fs (run (machine q) there next)))
       ∙ ap (λ (u : World). (here ++ there) ++ all_steps q fs u) (sym (run_append (machine q) here there w))
-
-  run_all : (rs : List (List Step)) (w : World) → run (machine q) (all_of rs) w ≡ run_rounds (machine q) rs w
-  run_all [] w = refl
-  run_all (r ∷ rs) w = run_append (machine q) r (all_of rs) w ∙ run_all rs (run (machine q) r w)
-
-  bounds_at : (ss ts : List Step) (w : World) → Visited (machine q) (AreBounds q) (ss ++ ts) w → AreBounds q (run (machine q) ss w)
-  bounds_at [] [] w v = v
-  bounds_at [] (t ∷ ts) w v = v.0
-  bounds_at (s ∷ ss) ts w v = bounds_at ss ts (step q s w) v.1
 
 -- behind the rounds the event `l` has the one step `s`, and then come the events `gs`
 module _ (p : Plan) (es fs gs : List Event) (l : Event) (s : Step) (single : (u : World) → steps_of p.quarter l u ≡ s ∷ []) (events : p.events ≡ es ++ (fs ++ l ∷ gs))
@@ -96,8 +86,7 @@ module _ (p : Plan) (es fs gs : List Event) (l : Event) (s : Step) (single : (u 
   begun : IsFitRun p → AreBounds q o
   begun fit =
       let split = steps ∙ append_assoc (first ++ all_of counted.rounds) written_behind (s ∷ steps_behind) ∙ append_assoc first (all_of counted.rounds) (written_behind ++ s ∷ steps_behind) in
-      bounds_at q first (all_of counted.rounds ++ (written_behind ++ s ∷ steps_behind)) w
-      (subst (λ (ss : List Step). Visited (machine q) (AreBounds q) ss w) split (each_world_of_a_run_is_within_bounds p fit))
+      bounds_there p fit first (all_of counted.rounds ++ (written_behind ++ s ∷ steps_behind)) split
 
   -- the network at the last step is that in which the rounds begin
   pub net_stays : IsFitRun p → (run (machine q) (to_last_round ++ written_behind) w).net ≡ o.net

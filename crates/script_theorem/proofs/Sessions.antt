@@ -1,7 +1,6 @@
 -- In a run, a report at a settled moment shows of each session that fits exactly what is demanded of it.
 use Rattle.std.proofs.Common.{ℕ, ◌∷◌, List, arith}
 use Rattle.std.specs.Prelude.{◌++◌}
-use Rattle.calm_rounds.specs.Machine.{run}
 use Rattle.network_model.specs.Bounds.{IsPurged, IsSettled, to_settle}
 use Rattle.network_model.specs.Runs.{first_world}
 use Rattle.network_model.specs.Steps.{Report, Step}

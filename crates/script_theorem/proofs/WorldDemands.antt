@@ -1,9 +1,9 @@
--- The world behind the lines of a script has what they ask, so its last report is the demand of the script.
-use Rattle.std.proofs.Common.{◌≡◌, ℕ, ◌+◌, zero, suc, true, List, [], ◌∷◌, ◌++◌, Option, Some, None, refl, sym, ap, subst, ◌∙◌, arith}
+-- The world behind the lines of a script has what they ask, so a report behind enough calm rounds, behind which the script only writes, is
+-- the demand of the script.
+use Rattle.std.proofs.Common.{◌≡◌, ℕ, ◌+◌, zero, suc, true, List, [], ◌∷◌, ◌++◌, ◌≤◌, Option, Some, None, refl, sym, ap, subst, ◌∙◌, arith}
 use Rattle.std.specs.Prelude.{map as each, slice_get}
 use Rattle.std.specs.List.{filter}
 use Rattle.std.specs.Option.{option_and_then, option_map}
-use Rattle.std.proofs.lemmas.List.{append-nil}
 use Rattle.rsvp_base.specs.Members.{In}
 use Rattle.rsvp_base.specs.Sets.{Set}
 use Rattle.rsvp_base.specs.Table.{get, has, keys}
@@ -17,7 +17,11 @@ use Rattle.tree_model.specs.declared.locals.LocalSender.{LocalSender}
 use Rattle.tree_model.specs.declared.locals.LocalWant.{LocalWant}
 use Rattle.tree_model.specs.Goals.{DemandsFit}
 use Rattle.tree_model.specs.Networks.{Net, owner}
+use Rattle.tree_model.specs.Ranks.{longest}
 use Rattle.tree_model.specs.Wants.{Locals}
+use Rattle.calm_rounds.specs.Machine.{run}
+use Rattle.network_model.specs.Bounds.{to_settle}
+use Rattle.network_model.specs.Events.{Reports, steps_of}
 use Rattle.network_model.specs.Locals.{locals_of, sender_at, senders_from, wants_from}
 use Rattle.network_model.specs.Runs.{first_world, steps_of_run, text_of}
 use Rattle.network_model.specs.Steps.{Report, Step, machine, step}
@@ -37,8 +41,12 @@ use Rattle.settle_adverts.specs.Demanded.{advertised_senders}
 use Rattle.script_theorem.specs.Demands.{moment}
 use Rattle.script_theorem.proofs.Demands.{a_settled_report_is_the_demand}
 use Rattle.laws_network.proofs.Calming.{run_append}
-use Rattle.script_theorem.proofs.Writing.{idle}
-use Rattle.script_theorem.specs.Standing.{AskTheSame, ScriptsStand, TheLastReportIsTheDemand, world_behind}
+use Rattle.script_theorem.specs.RoundsAmong.{rounds_among}
+use Rattle.script_theorem.specs.Standing.{AskTheSame, RoundsBringTheDemand, ScriptsStand, TheLastReportIsTheDemand, events_text, world_behind}
+use Rattle.script_theorem.specs.Writing.{OnlyWrite}
+use Rattle.script_theorem.proofs.LastRounds.{calm_there, only_writes_behind, steps, steps_before, steps_behind, to_last_round, written_behind}
+use Rattle.script_theorem.proofs.RoundsAmong.{none_of_them_waits}
+use Rattle.script_theorem.proofs.Writing.{same_net, same_nodes}
 use Rattle.script_theorem.proofs.Advertising.{AreAdvertised}
 use Rattle.script_theorem.proofs.Keeping.{Stands}
 use Rattle.script_theorem.proofs.Lines.{standing_behind}
@@ -116,34 +124,56 @@ scripts_stand bytes d leads =
           (λ x i. ap (λ (net : Net). owner net.ends x.sender.addr) (h.net within) ∙ sending.placed x i);
     }
 
--- ---- the last report
-module _ (bytes : List ℕ) (d : Draft) (leads : Leads nothing (text_lines bytes) d) (before : List Step) (e : Option ℕ) (parts : steps_of_run (plan_of d) ≡ before ++ Report e ∷ []) where
+-- ---- where only writing is left
+module _ (bytes : List ℕ) (d : Draft) (leads : Leads nothing (text_lines bytes) d) (before behind : List Step) (only : OnlyWrite behind)
+    (parts : steps_of_run (plan_of d) ≡ before ++ behind) where
+  abbrev q : ℕ
+  q = (plan_of d).quarter
+
   abbrev u : World
   u = moment (plan_of d) before
 
-  last : world_behind d ≡ step (plan_of d).quarter (Report e) u
-  last = ap (moment (plan_of d)) parts ∙ run_append (machine (plan_of d).quarter) before (Report e ∷ []) (first_world (plan_of d))
+  pub ends_there : world_behind d ≡ run (machine q) behind u
+  ends_there = ap (moment (plan_of d)) parts ∙ run_append (machine q) before behind (first_world (plan_of d))
 
-  same_net : u.net ≡ routing d
-  same_net = sym (ap (λ (w : World). w.net) last) ∙ (scripts_stand bytes d leads).net
+  pub net_there : u.net ≡ routing d
+  net_there = sym (ap (λ (w : World). w.net) ends_there ∙ same_net q behind u only) ∙ (scripts_stand bytes d leads).net
 
   same_locals : locals_of (world_behind d) ≡ locals_of u
-  same_locals = ap locals_of last ∙ ap (λ (fs : List Facts). record { senders = senders_from 0 fs; wants = wants_from 0 fs }) (idle (plan_of d).quarter (Report e) u refl).nodes
+  same_locals = ap locals_of ends_there ∙ ap (λ (fs : List Facts). record { senders = senders_from 0 fs; wants = wants_from 0 fs }) (same_nodes q behind u only)
 
   asked : AskTheSame (locals_of u) d.locals
   asked = subst (λ (l : Locals). AskTheSame l d.locals) same_locals (scripts_stand bytes d leads).locals
 
   fit_there : DemandsFit (routing d) d.locals → DemandsFit u.net (locals_of u)
-  fit_there fit = subst (λ (net : Net). DemandsFit net (locals_of u)) (sym same_net) (same_fit (routing d) (locals_of u) d.locals asked fit)
+  fit_there fit = subst (λ (net : Net). DemandsFit net (locals_of u)) (sym net_there) (same_fit (routing d) (locals_of u) d.locals asked fit)
 
-  text_there : demand_text d.names u.net (locals_of u) e ≡ demand_text d.names (routing d) d.locals e
-  text_there = ap (λ (net : Net). demand_text d.names net (locals_of u) e) same_net ∙ same_text (routing d) (locals_of u) d.locals asked d.names e
+  text_there : (e : Option ℕ) → demand_text d.names u.net (locals_of u) e ≡ demand_text d.names (routing d) d.locals e
+  text_there e = ap (λ (net : Net). demand_text d.names net (locals_of u) e) net_there ∙ same_text (routing d) (locals_of u) d.locals asked d.names e
 
+-- ---- the last report
 pub the_last_report_is_the_demand : TheLastReportIsTheDemand
-the_last_report_is_the_demand bytes d leads free ss still e parts settled writes fit =
+the_last_report_is_the_demand bytes d leads free ss still later e parts settled writes only fit =
     let is : IsScript bytes (plan_of d) = record { lines = d; leads = leads; says = refl } in
     let text : List ℕ = text_of (plan_of d).quarter d.names (ss ++ still) (first_world (plan_of d)) in
-    a_settled_report_is_the_demand (plan_of d) (each_script_is_a_fit_run bytes (plan_of d) is) (each_script_lets_few_send bytes (plan_of d) is) free ss still e [] parts settled writes
-    (fit_there bytes d leads (ss ++ still) e parts fit)
-    ∙ ap (λ (zs : List ℕ). text ++ zs) (append-nil (demand_text d.names (u bytes d leads (ss ++ still) e parts).net (locals_of (u bytes d leads (ss ++ still) e parts)) e)
-    ∙ text_there bytes d leads (ss ++ still) e parts)
+    let behind : List ℕ = text_of (plan_of d).quarter d.names later (step (plan_of d).quarter (Report e) (moment (plan_of d) (ss ++ still))) in
+    a_settled_report_is_the_demand (plan_of d) (each_script_is_a_fit_run bytes (plan_of d) is) (each_script_lets_few_send bytes (plan_of d) is) free ss still e later parts settled writes
+    (fit_there bytes d leads (ss ++ still) (Report e ∷ later) (refl, only) parts fit)
+    ∙ ap (λ (zs : List ℕ). text ++ (zs ++ behind)) (text_there bytes d leads (ss ++ still) (Report e ∷ later) (refl, only) parts e)
+
+pub rounds_bring_the_demand : RoundsBringTheDemand
+rounds_bring_the_demand bytes d leads free es fs gs e events rounds enough writing none fit =
+    let p = plan_of d in
+    let is : IsScript bytes p = record { lines = d; leads = leads; says = refl } in
+    let single : (w : World) → steps_of p.quarter (Reports e) w ≡ Report e ∷ [] = λ w. refl in
+    let ss = to_last_round p es fs gs (Reports e) (Report e) single events rounds in
+    let still = written_behind p es fs gs (Reports e) (Report e) single events rounds in
+    let later = steps_behind p es fs gs (Reports e) (Report e) single events rounds in
+    let parts = steps p es fs gs (Reports e) (Report e) single events rounds in
+    let only : OnlyWrite later = none_of_them_waits p.quarter gs (step p.quarter (Report e) (moment p (ss ++ still))) writing none in
+    let many : to_settle (longest (moment p (ss ++ still)).net) ≤ rounds_among fs =
+    subst (λ (net : Net). to_settle (longest net) ≤ rounds_among fs) (sym (net_there bytes d leads (ss ++ still) (Report e ∷ later) (refl, only) parts)) (omega (arith, enough)) in
+    let calm = calm_there p es fs gs (Reports e) (Report e) single events rounds to_settle (each_script_is_a_fit_run bytes p is) many in
+    the_last_report_is_the_demand bytes d leads free ss still later e parts calm (only_writes_behind p es fs gs (Reports e) (Report e) single events rounds) only fit
+    ∙ ap (λ (z : List Step). text_of p.quarter d.names z (first_world p) ++ (demand_text d.names (routing d) d.locals e ++ events_text d gs (step p.quarter (Report e) (moment p z))))
+    (sym (steps_before p es fs gs (Reports e) (Report e) single events rounds))

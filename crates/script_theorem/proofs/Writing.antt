@@ -96,7 +96,7 @@ module _ (q : ℕ) where
   no_arrivals [] u h = refl
   no_arrivals (t ∷ ts) u h = ap (λ (z : List Item). z ++ all_arrived (machine q) ts (step q t u)) (idle q t u h.0).none_arrives ∙ no_arrivals ts (step q t u) h.1
 
-  same_flight : (ts : List Step) (u : World) → OnlyWrite ts → (run (machine q) ts u).flight ≡ u.flight
+  pub same_flight : (ts : List Step) (u : World) → OnlyWrite ts → (run (machine q) ts u).flight ≡ u.flight
   same_flight [] u h = refl
   same_flight (t ∷ ts) u h = same_flight ts (step q t u) h.1 ∙ (idle q t u h.0).flight
 
@@ -147,7 +147,7 @@ module _ (q : ℕ) where
       }
 
   -- ---- at the end of the last round
-  in_last : List Step → List (List Step) → List (List Step)
+  pub in_last : List Step → List (List Step) → List (List Step)
   in_last ts [] = []
   in_last ts (r ∷ []) = (r ++ ts) ∷ []
   in_last ts (r ∷ x ∷ rs) = r ∷ in_last ts (x ∷ rs)
@@ -161,19 +161,19 @@ module _ (q : ℕ) where
   parts_then ts r [] = joined r [] ts ∙ sym (append-nil (r ++ ts))
   parts_then ts r (x ∷ rs) = joined r (all_of (x ∷ rs)) ts ∙ ap (λ (z : List Step). r ++ z) (parts_then ts x rs)
 
-  length_last : (ts : List Step) (rs : List (List Step)) → length (in_last ts rs) ≡ length rs
+  pub length_last : (ts : List Step) (rs : List (List Step)) → length (in_last ts rs) ≡ length rs
   unfolding in_last
   length_last ts [] = refl
   length_last ts (r ∷ []) = refl
   length_last ts (r ∷ x ∷ rs) = ap suc (length_last ts (x ∷ rs))
 
-  calm_last : (ts : List Step) (rs : List (List Step)) (w : World) → OnlyWrite ts → Rounds (machine q) rs w → Rounds (machine q) (in_last ts rs) w
+  pub calm_last : (ts : List Step) (rs : List (List Step)) (w : World) → OnlyWrite ts → Rounds (machine q) rs w → Rounds (machine q) (in_last ts rs) w
   unfolding in_last
   calm_last ts [] w h c = tt
   calm_last ts (r ∷ []) w h c = (calm_then r ts w h c.0, tt)
   calm_last ts (r ∷ x ∷ rs) w h c = (c.0, calm_last ts (x ∷ rs) (run (machine q) r w) h c.1)
 
-  all_parts : (ts : List Step) (rs : List (List Step)) → 1 ≤ length rs → all_of rs ++ ts ≡ all_of (in_last ts rs)
+  pub all_parts : (ts : List Step) (rs : List (List Step)) → 1 ≤ length rs → all_of rs ++ ts ≡ all_of (in_last ts rs)
   all_parts ts [] le = absurd (omega (arith, le))
   all_parts ts (r ∷ rs) le = parts_then ts r rs
 

@@ -2,10 +2,10 @@
 -- is what `demand` writes of the script, and an `adverts` line writes what the lines say of the routing and of who is advertised.
 use Rattle.std.specs.Prelude.{◌≡◌, ◌↔◌, ℕ, ◌+◌, ◌*◌, ◌≤◌, ◌++◌, false, List, [], ◌∷◌, Option}
 use Rattle.rsvp_base.specs.Members.{In}
-use Rattle.rsvp_base.specs.Sets.{Set, with_key}
-use Rattle.rsvp_base.specs.Table.{empty, without}
+use Rattle.rsvp_base.specs.Sets.{Set}
+use Rattle.rsvp_base.specs.Table.{empty}
+use Rattle.router_rules.specs.Calls.{advertised_with}
 use Rattle.router_rules.specs.Facts.{sender_keys}
-use Rattle.router_rules.specs.Inputs.{AdvertAs, DropAs}
 use Rattle.tree_model.specs.declared.locals.LocalSender.{LocalSender}
 use Rattle.tree_model.specs.declared.locals.LocalWant.{LocalWant}
 use Rattle.tree_model.specs.Goals.{DemandsFit}
@@ -14,7 +14,7 @@ use Rattle.tree_model.specs.Ranks.{longest}
 use Rattle.tree_model.specs.Wants.{Locals}
 use Rattle.network_model.specs.DemandTexts.{demand_text}
 use Rattle.network_model.specs.Bounds.{IsSettled}
-use Rattle.network_model.specs.Events.{AtNode, Event, ReportsAdverts, all_steps}
+use Rattle.network_model.specs.Events.{AtNode, Event, Reports, ReportsAdverts, all_steps}
 use Rattle.network_model.specs.Locals.{locals_of}
 use Rattle.network_model.specs.Runs.{first_world, is_crowded_run, run_text, steps_of_run, text_of}
 use Rattle.network_model.specs.Steps.{Adverts, Report, Step, step}
@@ -46,10 +46,10 @@ TheSameIsDemanded = (net : Net) (a b : Locals) → AskTheSame a b → IsSameDema
 abbrev pub world_behind : Draft → World
 world_behind d = moment (plan_of d) (steps_of_run (plan_of d))
 
--- a sender is advertised from an `advert` line on, until a line drops it; no other event makes a difference
+-- what a node is told changes who is advertised as by the rules: a sender is so from an `advert` line on, until a line drops it. No other
+-- event makes a difference
 abbrev pub advertised_then : Event → Set sender_keys → Set sender_keys
-advertised_then (AtNode n (AdvertAs s x)) ks = with_key ks (s, x)
-advertised_then (AtNode n (DropAs s x)) ks = without ks (s, x)
+advertised_then (AtNode n l) ks = advertised_with l ks
 advertised_then _ ks = ks
 
 -- who is advertised behind these events, where at first these are
@@ -66,13 +66,35 @@ pub record HasWhatIsAsked (d : Draft) : Type 0 where
 abbrev pub ScriptsStand : Type 0
 ScriptsStand = (bytes : List ℕ) (d : Draft) → Leads nothing (text_lines bytes) d → HasWhatIsAsked d
 
--- ---- a report that comes last, at a settled moment or behind steps that only write after one
+-- ---- the text of a part of a script
+-- the text of these events from this world on, and the world behind the first events of a script
+abbrev pub events_text : Draft → List Event → World → List ℕ
+events_text d es w = text_of (plan_of d).quarter d.names (all_steps (plan_of d).quarter es w) w
+
+abbrev pub world_after : Draft → List Event → World
+world_after d es = moment (plan_of d) (all_steps (plan_of d).quarter es (first_world (plan_of d)))
+
+-- ---- a report behind which the script only writes
+-- at a settled moment or behind steps that only write after one, where what the lines ask fits: the text is that of the steps before the
+-- report, then what `demand` writes of the script but for the last line, and then that of the steps behind it, if there are any, in the
+-- world there
 abbrev pub TheLastReportIsTheDemand : Type 0
 TheLastReportIsTheDemand =
-    (bytes : List ℕ) (d : Draft) → Leads nothing (text_lines bytes) d → is_crowded_run (plan_of d) ≡ false → (ss still : List Step) (e : Option ℕ)
-    → steps_of_run (plan_of d) ≡ (ss ++ still) ++ Report e ∷ [] → IsSettled (plan_of d).quarter (first_world (plan_of d)) ss
-    → OnlyWrite still → DemandsFit (routing d) d.locals
-    → run_text (plan_of d) ≡ text_of (plan_of d).quarter d.names (ss ++ still) (first_world (plan_of d)) ++ demand_text d.names (routing d) d.locals e
+    (bytes : List ℕ) (d : Draft) → Leads nothing (text_lines bytes) d → is_crowded_run (plan_of d) ≡ false → (ss still later : List Step) (e : Option ℕ)
+    → steps_of_run (plan_of d) ≡ (ss ++ still) ++ Report e ∷ later → IsSettled (plan_of d).quarter (first_world (plan_of d)) ss → OnlyWrite still → OnlyWrite later
+    → DemandsFit (routing d) d.locals
+    → run_text (plan_of d) ≡ text_of (plan_of d).quarter d.names (ss ++ still) (first_world (plan_of d))
+    ++ (demand_text d.names (routing d) d.locals e ++ text_of (plan_of d).quarter d.names later (step (plan_of d).quarter (Report e) (moment (plan_of d) (ss ++ still))))
+
+-- so in a script whose last lines are at least 13 H + 13 rounds, H the longest chain of hops of the routing in force, among lines that only
+-- write, the report, and lines that only write
+abbrev pub RoundsBringTheDemand : Type 0
+RoundsBringTheDemand =
+    (bytes : List ℕ) (d : Draft) → Leads nothing (text_lines bytes) d → is_crowded_run (plan_of d) ≡ false → (es fs gs : List Event) (e : Option ℕ)
+    → d.events ≡ es ++ (fs ++ Reports e ∷ gs) → AreRoundsAndWriting fs → 13 * longest (routing d) + 13 ≤ rounds_among fs → AreRoundsAndWriting gs → rounds_among gs ≡ 0
+    → DemandsFit (routing d) d.locals
+    → run_text (plan_of d) ≡ events_text d (es ++ fs) (first_world (plan_of d))
+    ++ (demand_text d.names (routing d) d.locals e ++ events_text d gs (step (plan_of d).quarter (Report e) (world_after d (es ++ fs))))
 
 -- ---- an `adverts` line behind which the script only writes
 -- what it is due, of the lines alone: the advertisements of the routing in force, of the senders that the lines advertise
@@ -87,13 +109,6 @@ TheLastAdvertsAreDemanded =
     → steps_of_run (plan_of d) ≡ (ss ++ still) ++ Adverts ∷ later → AreAdvertsSettled (plan_of d).quarter (first_world (plan_of d)) ss → OnlyWrite still → OnlyWrite later
     → run_text (plan_of d) ≡ text_of (plan_of d).quarter d.names (ss ++ still) (first_world (plan_of d))
     ++ (asked_adverts d ++ text_of (plan_of d).quarter d.names later (step (plan_of d).quarter Adverts (moment (plan_of d) (ss ++ still))))
-
--- the text of these events from this world on, and the world behind the first events of a script
-abbrev pub events_text : Draft → List Event → World → List ℕ
-events_text d es w = text_of (plan_of d).quarter d.names (all_steps (plan_of d).quarter es w) w
-
-abbrev pub world_after : Draft → List Event → World
-world_after d es = moment (plan_of d) (all_steps (plan_of d).quarter es (first_world (plan_of d)))
 
 -- so in a script whose last lines are at least so many rounds, H the longest chain of hops of the routing in force, among lines that only
 -- write, the `adverts` line, and lines that only write
