@@ -1,5 +1,5 @@
 -- Scripts of whose lines one reads that nothing goes round in their runs: these end in refreshes, and have the room that is said.
-use Rattle.std.proofs.Common.{◌≡◌, ◌⊎◌, ℕ, ◌+◌, ◌*◌, ◌≤◌, List, [], ◌∷◌, ◌++◌, length, false, inl, ⊎_elim, arith, sym, refl, ap, subst, ◌∙◌}
+use Rattle.std.proofs.Common.{◌≡◌, ℕ, ◌+◌, ◌*◌, ◌≤◌, List, [], ◌∷◌, ◌++◌, length, false, inl, ⊎_elim, arith, sym, refl, ap, subst, ◌∙◌}
 use Rattle.std.specs.List.{filter}
 use Rattle.rsvp_base.specs.declared.session.Sender.{Sender}
 use Rattle.rsvp_base.specs.declared.session.Session.{Session}
@@ -39,9 +39,11 @@ use Rattle.script_grammar.proofs.Scripts.{leads_one}
 use Rattle.script_fit.specs.Findings.{IsFindingsOf}
 use Rattle.script_theorem.specs.RoundsAmong.{AreRoundsAndWriting, rounds_among}
 use Rattle.script_theorem.specs.Standing.{world_behind}
+use Rattle.script_theorem.proofs.LastRounds.{steps_on}
+use Rattle.script_theorem.proofs.RoundsAmong.{none_of_them_waits}
 use Rattle.script_theorem.proofs.Same.{same_fit}
 use Rattle.script_theorem.proofs.WorldDemands.{scripts_stand}
-use Rattle.script_theorem.proofs.Writing.{joined, run_then}
+use Rattle.script_theorem.proofs.Writing.{joined, run_then, same_flight}
 use Rattle.script_words.specs.Lines.{text_lines}
 use Rattle.settle_network.proofs.RunsSettle.{visited_at}
 use Rattle.settle_network.proofs.Settled.{run_all}
@@ -53,7 +55,7 @@ use Rattle.settle_refreshes.proofs.Plain.{a_plain_moment_has_only_refreshes, a_p
 use Rattle.settle_refreshes.proofs.Settled.{ends_in_refreshes}
 use Rattle.script_overhead.specs.Plain.{APlainRunHasTheRoomThatIsSaid, APlainScriptStaysRoomy, ArePlainEvents, EndsPlainly, HasOneSenderEach, StaysRoomy}
 use Rattle.script_overhead.specs.Roomy.{EndsSettled, SaysRoomFor, end_of}
-use Rattle.script_overhead.proofs.LastRound.{AreCalmRounds, LastRound, all_calm, last_round, only_written, same_flight, steps_on}
+use Rattle.script_overhead.proofs.LastRound.{AreCalmRounds, LastRound, all_calm, last_round}
 use Rattle.script_overhead.proofs.Runs.{a_settled_run_has_the_room_that_is_said, it_fits}
 
 -- ---- what is left over asks for no confirmation
@@ -231,7 +233,7 @@ module _ (bytes : List ℕ) (d : Draft) (leads : Leads nothing (text_lines bytes
     module _ (enough : 13 * longest o.net + 13 ≤ rounds_among l.es) (only : HasOnlyRefreshes u) where
       none_left : (end_of plan).flight ≡ []
       none_left =
-          ap (λ (w : World). w.flight) ended_in ∙ same_flight q still v (only_written q l.gs v l.rest l.none)
+          ap (λ (w : World). w.flight) ended_in ∙ same_flight q still v (none_of_them_waits q l.gs v l.rest l.none)
           ∙ ap (λ (w : World). (run (machine q) (rounds q 1 w) w).flight) u_is
           ∙ rounds_leave_nothing q 0 o first_rounds.rounds first_rounds.calm start (let n = first_rounds.many in omega (arith, enough, n)) only
 
