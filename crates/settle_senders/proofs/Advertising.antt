@@ -108,7 +108,7 @@ module _ (q : ℕ) (t : Step) (u : World) (bounds : AreBounds q u) (turns : (n :
     abbrev pub told_over : Offer → Option Adspec
     told_over o = told_at (place q t u from) by_key.iface o
 
-    told_here : (o : Offer) → told_over o ≡ advert_by (option_map (λ (x : End). x.iface) (slice_get u.net.ends h.from)) o.advert
+    pub told_here : (o : Offer) → told_over o ≡ advert_by (option_map (λ (x : End). x.iface) (slice_get u.net.ends h.from)) o.advert
     told_here o =
         let on = own_iface q u.net u.trees from by_key.iface h.from (at_end q t u bounds k h there) in
         ap (λ (z : Option Iface). advert_by z o.advert) (on.2 ∙ sym (ap (option_map (λ (x : End). x.iface)) on.1))

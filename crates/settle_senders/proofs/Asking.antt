@@ -25,6 +25,7 @@ use Rattle.network_model.specs.Events.{pass, passes}
 use Rattle.network_model.specs.Locals.{IsLive}
 use Rattle.network_model.specs.Steps.{Deliver, sent, step}
 use Rattle.network_model.specs.Worlds.{Item, World, config_of}
+use Rattle.network_model.proofs.Machines.{in_rest}
 use Rattle.laws_network.proofs.Known.{of_some}
 use Rattle.settle_resvs.proofs.ResvSends.{resv_sent}
 use Rattle.settle_resvs.proofs.TowardNames.{parts_of_style, toward_names}
@@ -93,6 +94,10 @@ module _ (q : ℕ) (u : World) (has_them : HasItsPaths q u) where
       (λ (old : In y ys).
       let z = all y m v names x old spelt asks named there in record { sender = z.sender; flow = z.flow; live = live_next q 0 u has_them.bounds (m.session, z.sender) z.flow z.live; name = z.name })
       (λ (now : In y new). sent_of_live y m v names x now spelt asks named there) (in_append y ys new i)
+
+-- so it goes on where all that is in flight does
+pub asks_next : (q : ℕ) (u : World) → HasItsPaths q u → AreAsksOfLive u → AreAsksOfLive (step q (Deliver 0) u)
+asks_next q u h asks = live_on q u h (remove u.flight 0) (λ y m v names x i. asks y m v names x (in_rest (Deliver 0) u y refl i))
 
 -- ---- passes
 module _ (q : ℕ) where

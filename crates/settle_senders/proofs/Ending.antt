@@ -32,6 +32,7 @@ use Rattle.laws_inputs.proofs.Asks.{units_told}
 use Rattle.laws_inputs.proofs.Framing.{wants_then}
 use Rattle.laws_inputs.proofs.Knowing.{has-known, known_and_via}
 use Rattle.laws_inputs.proofs.Tests.{came_told}
+use Rattle.laws_steps.specs.AcceptingLaws.{IsTakenWhole}
 use Rattle.laws_steps.specs.ReservationLaws.{IsAskedFor}
 use Rattle.laws_steps.proofs.Asking.{where_a_reservation_fact_comes_from}
 use Rattle.router_rules.specs.Books.{book, lines}
@@ -122,7 +123,7 @@ abbrev pub AllCameBefore : World → World → Type 0
 AllCameBefore w u = (n : ℕ) (f : Facts) (s : Session) (hop : NextHop) (x : Sender) → slice_get u.nodes n ≡ Some f → ComesBy f s hop x → CameBefore w u.net n s hop x
 
 -- so it is while a sender fades that sent before, where all others sent before too
-all_came : (q : ℕ) (d : SenderKey) (flow : TokenBucket) (w u : World) → IsLive w d flow → IsFading q d u → ((k : SenderKey) (t : TokenBucket) → IsLive u k t → IsLive w k t) → AllCameBefore w u
+pub all_came : (q : ℕ) (d : SenderKey) (flow : TokenBucket) (w u : World) → IsLive w d flow → IsFading q d u → ((k : SenderKey) (t : TokenBucket) → IsLive u k t → IsLive w k t) → AllCameBefore w u
 all_came q d flow w u was fading lived n f s hop x at c =
     let by = came_told hop c.path c.by in
     either (eq_by_cmp sender_keys.cmp (s, x) d)
@@ -159,7 +160,7 @@ module _ (q : ℕ) (t : Step) (u w : World) (bounds : AreBounds q u) (turns : (n
   after = left q t u
 
   -- a Resv goes back over a hop of its group
-  over_hop : (y : Item) (m : ResvMsg) (p : IsResvSent q u.net u.trees after y m) → (h : LinkHop) × IsPrevious u.net p.node p.lane.session p.lane.hop h × (h.from ≡ y.end) × (h.to ≡ p.end)
+  pub over_hop : (y : Item) (m : ResvMsg) (p : IsResvSent q u.net u.trees after y m) → (h : LinkHop) × IsPrevious u.net p.node p.lane.session p.lane.hop h × (h.from ≡ y.end) × (h.to ≡ p.end)
       × (y.dst ≡ addr_of u.net y.end)
   over_hop y m p =
       let a = came p.node p.facts p.lane.session p.lane.hop p.by.0 p.after p.by.1 in
@@ -229,20 +230,20 @@ module _ (q : ℕ) (d : SenderKey) (flow : TokenBucket) (w u : World) (was : IsL
   bounds : AreBounds q u
   bounds = r.fading.bounds
 
-  faded : IsFading q d next
+  pub faded : IsFading q d next
   faded = fading_next q 0 d u r.fading
 
   same : IsSameNet u next
   same = same_next q 0 u bounds u (known_self q u bounds).same
 
-  lived_next : (k : SenderKey) (t : TokenBucket) → IsLive next k t → IsLive w k t
+  pub lived_next : (k : SenderKey) (t : TokenBucket) → IsLive next k t → IsLive w k t
   lived_next k t l = r.lived k t (live_back q 0 u bounds k t l)
 
-  wanted_next : (x : LocalWant) → In x (locals_of next).wants → HasNoLess (locals_of w).wants x
+  pub wanted_next : (x : LocalWant) → In x (locals_of next).wants → HasNoLess (locals_of w).wants x
   wanted_next x i = r.wanted x (subst (λ (z : Locals). In x z.wants) same.locals i)
 
   -- a node that gets something gets a datagram
-  turns : (n : ℕ) (f : Facts) → slice_get u.nodes n ≡ Some f → (outcome q (Deliver 0) u n f ≡ still f) ⊎ Turns q (Deliver 0) u n f
+  pub turns : (n : ℕ) (f : Facts) → slice_get u.nodes n ≡ Some f → (outcome q (Deliver 0) u n f ≡ still f) ⊎ Turns q (Deliver 0) u n f
   turns n f at =
       ⊎_elim (λ (z : (input_at (Deliver 0) u n ≡ None) × (outcome q (Deliver 0) u n f ≡ still f)). inl z.1)
       (λ (h : FollowsRule q (Deliver 0) u n f (outcome q (Deliver 0) u n f)).
@@ -257,7 +258,7 @@ module _ (q : ℕ) (d : SenderKey) (flow : TokenBucket) (w u : World) (was : IsL
       (outcome_quiet q (Deliver 0) u n f refl)
 
   -- what a node keeps it kept, or an item asked for it
-  kept_within : AreKeptWithin w.nodes next
+  pub kept_within : AreKeptWithin w.nodes next
   kept_within st n g k x at h =
       let e = end_of q u.net u.trees n k.1.0.0 ((faded.bounds.facts n g at).shapes.resvs st k x h).iface in
       let of = (interfaces_are_ends u.net).iface_of_end n k.1.0.0 e.0 e.1 in
@@ -282,7 +283,7 @@ module _ (q : ℕ) (d : SenderKey) (flow : TokenBucket) (w u : World) (was : IsL
       (resv_source q u spot of.0 (Deliver 0) u refl (known_self q u bounds) x found) in
       record { end = e.0; at = e.1; sound = part_again st (as_before w.nodes u) (as_before w.nodes next) k.0 e.0 k.1.0.1 k.1.1 x.part refl refl good }
 
-  letting_go_next : IsLettingGo q d w next
+  pub letting_go_next : IsLettingGo q d w next
   letting_go_next = record {
     fading = faded;
     names = names_next q 0 u bounds r.names;
@@ -334,19 +335,19 @@ module _ (q n : ℕ) (d : SenderKey) (w : World) (start : HasItsPaths q w) (soun
   hosts : AreHosts begun
   hosts = hosts_after q n d w start.hosts
 
-  fades_now : IsFading q d begun
+  pub fades_now : IsFading q d begun
   fades_now = fades q n d w start sends quiet hosts
 
-  flow : (t : TokenBucket) × (get sends.facts.senders d ≡ Some t)
+  pub flow : (t : TokenBucket) × (get sends.facts.senders d ≡ Some t)
   flow = has_some (get sends.facts.senders d) sends.sends
 
-  was : IsLive w d flow.0
+  pub was : IsLive w d flow.0
   was = is_live w n sends.facts d flow.0 sends.there flow.1
 
-  kinds : AreWantParts (locals_of w)
+  pub kinds : AreWantParts (locals_of w)
   kinds = want_parts q w start.bounds
 
-  turns_now : (m : ℕ) (f : Facts) → slice_get w.nodes m ≡ Some f → (outcome q (At n call) w m f ≡ still f) ⊎ Turns q (At n call) w m f
+  pub turns_now : (m : ℕ) (f : Facts) → slice_get w.nodes m ≡ Some f → (outcome q (At n call) w m f ≡ still f) ⊎ Turns q (At n call) w m f
   turns_now m f at =
       ⊎_elim (λ (z : outcome q (At n call) w m f ≡ still f). inl z)
       (λ (h : IsCalled q w n call m f).
@@ -359,13 +360,13 @@ module _ (q n : ℕ) (d : SenderKey) (w : World) (start : HasItsPaths q w) (soun
       }))
       (called q w n call m f)
 
-  lived_now : (k : SenderKey) (t : TokenBucket) → IsLive begun k t → IsLive w k t
+  pub lived_now : (k : SenderKey) (t : TokenBucket) → IsLive begun k t → IsLive w k t
   lived_now k t l =
       let g = senders_found begun l.node l.senders l.at in
       let f = sender_before q n d w start.hosts l.node g.0 k t g.1 (ap (λ (z : Table sender_keys TokenBucket). get z k) g.2 ∙ l.sends) in
       is_live w l.node f.0 k t f.1 f.2
 
-  wanted_now : (x : LocalWant) → In x (locals_of begun).wants → HasNoLess (locals_of w).wants x
+  pub wanted_now : (x : LocalWant) → In x (locals_of begun).wants → HasNoLess (locals_of w).wants x
   wanted_now x i =
       let r = want_of_node begun x i in
       let f = facts_after_found q (At n call) w x.node r.0 r.3 in
@@ -388,7 +389,7 @@ module _ (q n : ℕ) (d : SenderKey) (w : World) (start : HasItsPaths q w) (soun
       }
 
   -- what nodes keep they kept before, perhaps with fewer names
-  kept_now : AreKeptWithin w.nodes begun
+  pub kept_now : AreKeptWithin w.nodes begun
   kept_now st m g k x at e =
       let f = facts_after_found q (At n call) w m g at in
       let now : get (resvs_of st (outcome q (At n call) w m f.0).facts) k ≡ Some x = ap (λ (z : Facts). get (resvs_of st z) k) (sym f.2) ∙ e in
@@ -413,7 +414,7 @@ module _ (q n : ℕ) (d : SenderKey) (w : World) (start : HasItsPaths q w) (soun
             (sound_cut st w k.0 y.end k.1.0.1 k.1.1 x.part r.0.part (record { names = r.2.names; flow = r.2.flow; named = r.2.named }) y.sound);
       }
 
-  in_flight_now : (y : Item) → In y begun.flight → In y w.flight ⊎ ((b : Bool) × In (y, b) (sent q (At n call) w))
+  pub in_flight_now : (y : Item) → In y begun.flight → In y w.flight ⊎ ((b : Bool) × In (y, b) (sent q (At n call) w))
   in_flight_now y i =
       ⊎_elim (λ (old : In y w.flight). inl old)
       (λ (j : In y (each (λ (z : Item × Bool). z.0) (sent q (At n call) w))).
@@ -428,7 +429,7 @@ module _ (q n : ℕ) (d : SenderKey) (w : World) (start : HasItsPaths q w) (soun
       let of = (interfaces_are_ends w.net).iface_of_end m k.1.0.0 y.end y.at in
       name_known w y.end k.0 st x (name_there q w start st k.0 y.end k.1.0.1 k.1.1 r.part y.sound x named) f (ap (λ (z : ℕ). slice_get w.nodes z) of.1 ∙ at)
 
-  lets_go : IsLettingGo q d w begun
+  pub lets_go : IsLettingGo q d w begun
   lets_go = record {
     fading = fades_now;
     names = names_called q n call w start.bounds knew;
@@ -456,7 +457,7 @@ module _ (q n : ℕ) (d : SenderKey) (w : World) (start : HasItsPaths q w) (soun
         (in_flight_now y i);
   }
 
-  then_on : (i : ℕ) → IsLettingGo q d w (after_passes q i begun)
+  pub then_on : (i : ℕ) → IsLettingGo q d w (after_passes q i begun)
   then_on i = passes_on q d flow.0 w was kinds i begun lets_go
 
   pub a_drop_asks_for_no_more : (i : ℕ) → AreNoMoreThanWanted w (after_passes q i begun)
@@ -482,7 +483,7 @@ module _ (q n : ℕ) (d : SenderKey) (w : World) (start : HasItsPaths q w) (soun
   abbrev later : ℕ → World
   later i = after_passes q (longest w.net + i) begun
 
-  forgotten : (i : ℕ) → HasItsPaths q (later i)
+  pub forgotten : (i : ℕ) → HasItsPaths q (later i)
   forgotten i =
       subst (λ (z : World). HasItsPaths q z) (sym (passes_sum q (longest w.net) i begun))
       (paths_stay q i (after_passes q (longest w.net) begun) (an_ended_sender_is_forgotten q n d w start sends quiet hosts))
@@ -547,6 +548,13 @@ module _ (q n : ℕ) (d : SenderKey) (w : World) (start : HasItsPaths q w) (soun
           name = b.name;
         }
 
+    pub taken_then : (y : Item) (m : ResvMsg) (f : Facts) → In y u.flight → y.arrival ≡ Spelt (message.Resv m) → slice_get u.nodes (node_of u.net.ends y.end) ≡ Some f
+        → IsTakenWhole (config_of q u.net u.trees (node_of u.net.ends y.end)) (config_of q u.net u.trees (node_of u.net.ends y.end)) u.clock (iface_of u.net.ends y.end) m f
+        (goal_at u.net (locals_of w) (node_of u.net.ends y.end))
+    taken_then y m f i spelt at =
+        let fits : SessionFits u.net (locals_of w) m.session = subst (λ (z : Net). SessionFits z (locals_of w) m.session) (sym net) (each_fits w.net (locals_of w) fit m.session) in
+        taken_as_wanted q m.session w.nodes u has_them.bounds r.wanted fits r.within y m i spelt refl f at (known_there y m f i spelt at)
+
     takes_all_then : (t : Step) → is_quiet t ≡ true → TakesAll q t u
     takes_all_then t quiet_one y m f v arr spelt at asked =
         let i : In y u.flight = in_arrived t u y arr in
@@ -560,8 +568,7 @@ module _ (q n : ℕ) (d : SenderKey) (w : World) (start : HasItsPaths q w) (soun
         let came : input_at t u e ≡ Some input = came_there q u u (known_self q u has_them.bounds) y.end lt t y arr refl ∙ (λ z. Some (Came j (dst z) (spelt z))) in
         let ms : u.clock + ms_of t ≡ u.clock = (let z = arrival_takes_no_time t u y arr in omega arith) in
         let is = outcome_by q t u e f input quiet_one came in
-        let fits : SessionFits u.net (locals_of w) m.session = subst (λ (z : Net). SessionFits z (locals_of w) m.session) (sym net) (each_fits w.net (locals_of w) fit m.session) in
-        let taken = taken_as_wanted q m.session w.nodes u has_them.bounds r.wanted fits r.within y m i spelt refl f at (known_there y m f i spelt at) in
+        let taken = taken_then y m f i spelt at in
         let k = r.within.items y m v i spelt asked in
         let x = taken.facts v k.names asked k.named in (
           x.0,
@@ -575,7 +582,7 @@ module _ (q n : ℕ) (d : SenderKey) (w : World) (start : HasItsPaths q w) (soun
   all_is_taken fit i t quiet_one = takes_all_then (later (suc i)) (then_on (longest w.net + suc i)) (forgotten (suc i)) (no_resv_names_it i) (net_stays q (longest w.net + suc i) begun) fit t quiet_one
 
 -- ---- a settled network in which nothing is in flight
-settled_has_paths : (q : ℕ) (w : World) → AreBounds q w → AreHosts w → HasSettled q w → w.flight ≡ [] → HasItsPaths q w
+pub settled_has_paths : (q : ℕ) (w : World) → AreBounds q w → AreHosts w → HasSettled q w → w.flight ≡ [] → HasItsPaths q w
 settled_has_paths q w bounds locals settled quiet = record {
   bounds = bounds;
   hosts = locals;

@@ -1,5 +1,5 @@
 -- A host ends to send where receivers have what it sends: what nodes keep meanwhile, and whom it names in the end.
-use Rattle.std.specs.Prelude.{◌≡◌, ℕ, ◌<◌, ◌≤◌, length, true, Some, slice_get}
+use Rattle.std.specs.Prelude.{◌≡◌, ℕ, ◌<◌, ◌≤◌, length, true, false, Some, slice_get}
 use Rattle.rsvp_base.specs.declared.session.Sender.{Sender}
 use Rattle.rsvp_base.specs.declared.session.Session.{Session}
 use Rattle.rsvp_base.specs.declared.style.StyleKind.{StyleKind}
@@ -9,16 +9,19 @@ use Rattle.rsvp_base.specs.Styles.{name_of}
 use Rattle.rsvp_base.specs.Table.{get, has}
 use Rattle.rsvp_base.specs.TokenBucket.{TokenBucket}
 use Rattle.rsvp_messages.specs.declared.message.Message.TheVariants as message
+use Rattle.rsvp_messages.specs.declared.message.ResvErrMsg.{ResvErrMsg}
 use Rattle.rsvp_messages.specs.declared.message.ResvMsg.{ResvMsg}
 use Rattle.rsvp_messages.specs.Units.{AskedUnit, ask_style, asked_units}
 use Rattle.style_rules.specs.Lines.{LineKey, held}
 use Rattle.router_rules.specs.Books.{book}
+use Rattle.router_rules.specs.Errors.{sets_walls}
 use Rattle.router_rules.specs.Facts.{Facts, ResvState, resvs_of}
 use Rattle.router_rules.specs.Inputs.{Spelt}
 use Rattle.tree_model.specs.Goals.{demand_of}
 use Rattle.tree_model.specs.Networks.{iface_of, node_of}
 use Rattle.network_model.specs.Locals.{IsLive, locals_of}
 use Rattle.network_model.specs.Sound.{IsSoundResv}
+use Rattle.network_model.specs.Steps.{Step, arrived, outcome}
 use Rattle.network_model.specs.Worlds.{Item, World}
 
 -- each reservation of the later world is at most what was wanted over its hop in the earlier one
@@ -48,3 +51,16 @@ abbrev pub AreAsksOfLive : World → Type 0
 AreAsksOfLive w =
     (y : Item) (m : ResvMsg) (v : AskedUnit) (names : Names) (x : Sender) → In y w.flight → y.arrival ≡ Spelt (message.Resv m) → In v (asked_units m.ask) → v.names ≡ Some names
     → has names x ≡ true → IsNameOfLive w m.session (ask_style m.ask) x
+
+-- no ResvErr in flight sets a blockade: none with a flow says that something did not fit
+abbrev pub SetNoBlockade : World → Type 0
+SetNoBlockade w = (y : Item) (m : ResvErrMsg) → In y w.flight → y.arrival ≡ Spelt (message.ResvErr m) → sets_walls m ≡ false
+
+-- whatever arrives by the step is taken for those that send: the reservation of a unit that lists such a name has it, and the flow that was
+-- asked for
+abbrev pub TakesForLive : ℕ → Step → World → Type 0
+TakesForLive q s w =
+    (y : Item) (m : ResvMsg) (f : Facts) (u : AskedUnit) (names : Names) (x : Sender) → arrived s w ≡ Some y → y.arrival ≡ Spelt (message.Resv m)
+    → slice_get w.nodes (node_of w.net.ends y.end) ≡ Some f → In u (asked_units m.ask) → u.names ≡ Some names → has names x ≡ true → IsNameOfLive w m.session (ask_style m.ask) x
+    → (r : ResvState) × (get (resvs_of (ask_style m.ask) (outcome q s w (node_of w.net.ends y.end) f).facts) (m.session, ((iface_of w.net.ends y.end, m.hop.addr), u.unit)) ≡ Some r)
+    × (has r.part.senders x ≡ true) × (r.part.flow ≡ u.flow)

@@ -1,17 +1,20 @@
 //! The laws.
 ghost use Rattle.std.specs.Prelude.{◌≡◌, ℕ, suc, ◌+◌, ◌*◌, [], true, false};
 ghost use Rattle.rsvp_base.specs.declared.session.Session.{Session};
+ghost use Rattle.rsvp_base.specs.Members.{In};
 ghost use Rattle.rsvp_base.specs.Sets.{with_key};
 ghost use Rattle.rsvp_base.specs.TokenBucket.{IsSound, TokenBucket};
 ghost use Rattle.laws_inputs.specs.Frames.{calls_on_senders};
 ghost use Rattle.router_rules.specs.Facts.{SenderKey};
 ghost use Rattle.router_rules.specs.Inputs.{Local};
 ghost use Rattle.router_rules.specs.Steps.{IsFitCall};
+ghost use Rattle.tree_model.specs.declared.hops.LinkHop.{LinkHop};
 ghost use Rattle.tree_model.specs.Goals.{DemandsFit};
 ghost use Rattle.tree_model.specs.Ranks.{longest};
+ghost use Rattle.tree_model.specs.Trees.{tree};
 ghost use Rattle.network_model.specs.Bounds.{AreBounds, AreHosts, IsStart};
-ghost use Rattle.network_model.specs.Locals.{locals_of};
-ghost use Rattle.network_model.specs.Sound.{TakesAll};
+ghost use Rattle.network_model.specs.Locals.{IsLive, locals_of};
+ghost use Rattle.network_model.specs.Sound.{HasNoFlowError, IsFreeOfBlockade, IsPathAt, TakesAll};
 ghost use Rattle.network_model.specs.Steps.{At, Step, is_quiet, step};
 ghost use Rattle.network_model.specs.Worlds.{World};
 ghost use Rattle.settle_adverts.specs.Demanded.{HasSettledAdverts, advertised_senders};
@@ -19,10 +22,11 @@ ghost use Rattle.settle_resvs.specs.Sessions.{SessionFits};
 ghost use Rattle.settle_network.specs.Settled.{HasSettled};
 ghost use Rattle.settle_passes.specs.Calls.{HasItsPaths, IsNew, SendsAt, after_drop, after_send};
 ghost use Rattle.settle_passes.specs.Passes.{after_passes};
-ghost use Rattle.settle_passes.specs.Reserving.{HasReserved, IsReserving};
+ghost use Rattle.settle_passes.specs.Reserving.{AreAskedFor, HasReserved, IsReserving};
 ghost use Rattle.settle_releases.specs.Releases.{HasNoMark};
 ghost use Rattle.settle_senders.specs.Adverts.{AreAdvertising, HasItsAdverts, after_advert};
-ghost use Rattle.settle_senders.specs.Ending.{AreAsksOfLive, AreNamesLive, AreNoMoreThanWanted, EndsHoldNoMore};
+ghost use Rattle.settle_senders.specs.Ending.{AreAsksOfLive, AreNamesLive, AreNoMoreThanWanted, EndsHoldNoMore, SetNoBlockade, TakesForLive};
+ghost use Rattle.settle_senders.specs.Flows.{HasItsFlows, IsTelling};
 ghost use Rattle.settle_senders.specs.Following.{IsFollowing};
 
 /// Where paths spread and the reservations of a session follow them, as when a host begins to send where receivers wait, they do so still n
@@ -100,7 +104,7 @@ pub fn a_new_sender_is_said()
 {}
 
 /// And when a host advertises, and when a receiver asks or quits: by each call that is neither one to send nor one to end, whether or not it is
-/// refused. Of a host that sends already and says another flow nothing is said here.
+/// refused. Of a host that sends already and says another flow see `a_new_flow_leaves_adverts`.
 pub fn an_advert_is_said()
     ensures { (q n : ℕ) (l : Local) (w : World) → AreAdvertising q w → IsFitCall l → calls_on_senders l ≡ false → AreAdvertising q (step q (At n l) w) }
 {}
@@ -184,4 +188,100 @@ pub fn a_sender_that_ends_is_asked_for_no_more()
 pub fn what_is_asked_for_then_is_taken()
     ensures { (q n i : ℕ) (d : SenderKey) (w : World) → IsStart q w → HasSettled q w → w.flight ≡ [] → SendsAt w n d → (t : Step) → is_quiet t ≡ true
         → TakesAll q t (after_passes q (longest w.net + suc i) (after_drop q n d w)) }
+{}
+
+/// In a network that has its paths, each with the flow that its sender sends, and in which no Path is in flight, over each hop of a sender's tree
+/// the flow that the node before it says stands behind it once all that is on its way has arrived.
+pub fn flows_that_are_there_are_said()
+    ensures { (q : ℕ) (w : World) → HasItsFlows q w → IsTelling q w }
+{}
+
+/// That goes on so when a host that sends already says another flow, whether or not the one before is known everywhere yet.
+pub fn a_new_flow_is_said()
+    ensures { (q n : ℕ) (k : SenderKey) (t : TokenBucket) (w : World) → IsTelling q w → IsSound t → SendsAt w n k → IsTelling q (after_send q n k t w) }
+{}
+
+/// And by each call that is neither one to send nor one to end, as when a receiver asks or quits, or a host advertises, whether or not it is
+/// refused.
+pub fn a_call_is_told()
+    ensures { (q n : ℕ) (l : Local) (w : World) → IsTelling q w → IsFitCall l → calls_on_senders l ≡ false → IsTelling q (step q (At n l) w) }
+{}
+
+/// And by passes: so the next call may come before what the first one changed is known.
+pub fn flows_are_said_still()
+    ensures { (q n : ℕ) (w : World) → IsTelling q w → IsTelling q (after_passes q n w) }
+{}
+
+/// H passes from the last call on each path keeps the flow that its sender sends, and no Path is in flight; H is the length of the longest chain.
+pub fn flows_are_set_up()
+    ensures { (q : ℕ) (w : World) → IsTelling q w → HasItsFlows q (after_passes q (longest w.net) w) }
+{}
+
+/// So when a host that sends says another flow, in a network that has its paths and in which no Path is in flight, H passes on each path keeps the
+/// flow that its sender sends, the new one with the others, and no Path is in flight, without waiting (RFC 2205, 2.3).
+pub fn a_new_flow_is_set_up()
+    ensures { (q n : ℕ) (k : SenderKey) (t : TokenBucket) (w : World) → HasItsFlows q w → IsSound t → SendsAt w n k
+        → HasItsFlows q (after_passes q (longest w.net) (after_send q n k t w)) }
+{}
+
+/// And the call is not refused, so that each path of the sender keeps the new flow then: there is one at each hop of its tree.
+pub fn a_new_flow_is_kept()
+    ensures { (q n : ℕ) (k : SenderKey) (t : TokenBucket) (w : World) → HasItsFlows q w → IsSound t → SendsAt w n k
+        → (h : LinkHop) → In h (tree w.net.hops k.0.group k.1.addr) → IsPathAt (after_passes q (longest w.net) (after_send q n k t w)) k t h }
+{}
+
+/// And each path of another sender keeps the flow that it kept, by the same hop.
+pub fn other_flows_are_kept()
+    ensures { (q n : ℕ) (k : SenderKey) (t : TokenBucket) (w : World) → HasItsFlows q w → IsSound t → SendsAt w n k
+        → (j : SenderKey) (v : TokenBucket) (h : LinkHop) → (j ≡ k → ⊥) → IsLive w j v → In h (tree w.net.hops j.0.group j.1.addr)
+        → IsPathAt (after_passes q (longest w.net) (after_send q n k t w)) j v h }
+{}
+
+/// And what is reserved is what it was: where the network had settled and nothing was in flight, it has settled again H passes after the host says
+/// another flow, and nothing is in flight. So each book is its demand, which depends on who sends and what is wanted, and on no flow that is sent;
+/// the demands need not fit.
+pub fn a_new_flow_leaves_reservations()
+    ensures { (q n : ℕ) (k : SenderKey) (t : TokenBucket) (w : World) → AreBounds q w → AreHosts w → HasSettled q w → w.flight ≡ [] → IsSound t → SendsAt w n k
+        → HasSettled q (after_passes q (longest w.net) (after_send q n k t w)) × ((after_passes q (longest w.net) (after_send q n k t w)).flight ≡ []) }
+{}
+
+/// And what paths keep of adverts: a network that has its adverts has them again H passes after a host that sends says another flow.
+pub fn a_new_flow_leaves_adverts()
+    ensures { (q n : ℕ) (k : SenderKey) (t : TokenBucket) (w : World) → HasItsAdverts q w → IsSound t → SendsAt w n k
+        → HasItsAdverts q (after_passes q (longest w.net) (after_send q n k t w)) }
+{}
+
+/// While a sender that ended is forgotten, nothing is refused for want of room, where the demands fitted before: after each pass no node has a
+/// blockade, and no ResvErr in flight sets one. So what is refused meanwhile is refused for the sender alone.
+pub fn a_sender_that_ends_sets_no_blockade()
+    ensures { (q n i : ℕ) (d : SenderKey) (w : World) → IsStart q w → HasSettled q w → w.flight ≡ [] → SendsAt w n d
+        → SetNoBlockade (after_passes q i (after_drop q n d w)) × IsFreeOfBlockade (after_passes q i (after_drop q n d w)) }
+{}
+
+/// From 2 H + 1 passes after a host ends on, no ResvErr with a flow is in flight, where the demands fitted before: what was refused for the
+/// sender has been told to all whom it reaches. An error goes on over one hop a pass, and none is made from H + 1 passes on.
+pub fn a_sender_that_ends_leaves_no_error()
+    ensures { (q n i : ℕ) (d : SenderKey) (w : World) → IsStart q w → HasSettled q w → w.flight ≡ [] → SendsAt w n d
+        → HasNoFlowError (after_passes q (2 * longest w.net + suc i) (after_drop q n d w)) }
+{}
+
+/// And from the first pass on each Resv that arrives is taken for those that send, whatever the network does by itself: the reservation of each
+/// unit that lists such a name has it afterwards, and the flow that was asked for. So what may be left out is the sender that ended.
+pub fn what_is_asked_for_others_is_taken()
+    ensures { (q n i : ℕ) (d : SenderKey) (w : World) → IsStart q w → HasSettled q w → w.flight ≡ [] → SendsAt w n d → (t : Step) → is_quiet t ≡ true
+        → TakesForLive q t (after_passes q i (after_drop q n d w)) }
+{}
+
+/// And from H + 1 passes after a host ends on, each node has asked for what goes from it: over each hop it stands behind it, and nothing on its
+/// way there asks for anything else; or it is asked for on its way, and nothing that was sent later asks for anything else.
+pub fn what_goes_then_is_asked_for()
+    ensures { (q n i : ℕ) (s : Session) (d : SenderKey) (w : World) → IsStart q w → HasSettled q w → w.flight ≡ [] → SendsAt w n d
+        → AreAskedFor q s (after_passes q (longest w.net + suc i) (after_drop q n d w)) }
+{}
+
+/// So from a settled network within bounds with hosts, in which nothing is in flight and whose demands fit, the network has settled again 2 H + 1
+/// passes after a host ends, and after each pass from then on: the book of each end is its demand, without the sender.
+pub fn a_settled_network_lets_a_sender_go()
+    ensures { (q n i : ℕ) (d : SenderKey) (w : World) → IsStart q w → HasSettled q w → w.flight ≡ [] → SendsAt w n d
+        → HasSettled q (after_passes q (2 * longest w.net + suc i) (after_drop q n d w)) }
 {}

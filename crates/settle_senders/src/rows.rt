@@ -1,5 +1,6 @@
 //! Worked rows: small networks, by computing.
 ghost use Rattle.settle_senders.specs.AdvertsWorked.{AHostAdvertises, AStrayPathIsTaken, NoPassIsSparedAnAdvert};
+ghost use Rattle.settle_senders.specs.FlowsWorked.{AHostSaysAnotherFlow, AStrayFlowIsTaken, NoPassIsSparedAFlow};
 ghost use Rattle.settle_senders.specs.Worked.{AMarkIsAnswered, ANewDemandIsRefused, APathGoesToOneEnd, AReceiverWaits, ASenderEnds, ASharedFlowFallsLater, ATearIsInFlight};
 ghost use Rattle.settle_senders.specs.Worked.{NoPassIsSpared, TwoSendersEnd, WhatIsLeftOverStays};
 
@@ -80,4 +81,23 @@ pub fn a_shared_flow_falls_later()
 /// each by name asks once more for the second one when it hears that the first has ended, and the answer is on its way after two passes.
 pub fn two_senders_end()
     ensures { TwoSendersEnd }
+{}
+
+/// In a pair of nodes whose path is there, the host says another flow: that meets the premises of the laws on flows, and what they promise does
+/// not hold yet when it does. The path keeps the flow of before then, and the new one a pass later.
+pub fn a_host_says_another_flow()
+    ensures { AHostSaysAnotherFlow }
+{}
+
+/// None of the H passes can be spared: in a line of two hops the last node keeps the flow of before one pass after the host says another one, and
+/// the new one after two.
+pub fn no_pass_is_spared_a_flow()
+    ensures { NoPassIsSparedAFlow }
+{}
+
+/// Not without what is asked of Paths in flight when a host says another flow: where one with a flow that its sender does not send is injected, in
+/// a network of one hop, and the host then says another flow as another sender, a pass later the path of the first keeps the stray flow, and
+/// that of the other the new one.
+pub fn a_stray_flow_is_taken()
+    ensures { AStrayFlowIsTaken }
 {}
