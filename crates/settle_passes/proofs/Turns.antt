@@ -1,4 +1,5 @@
--- A step by which a node follows its rule at most, without time going by: what it sends back over a hop.
+-- A step by which a node follows its rule at most, without time going by: what it sends back over a hop, where what comes from a previous hop comes
+-- over a hop of its sender's tree.
 use Rattle.std.proofs.Common.{◌≡◌, ℕ, ◌+◌, ◌<◌, List, [], ◌∷◌, length, Bool, true, false, cond, Option, None, Some, ◌⊎◌, inl, inr, ⊎_elim, sym, refl, ap, subst, ◌∙◌}
 use Rattle.std.specs.Prelude.{slice_get, is_some, not, ◌||◌, map as each}
 use Rattle.rsvp_base.specs.declared.addr.Addr.{Addr}
@@ -20,10 +21,11 @@ use Rattle.rsvp_messages.specs.declared.message.Message.TheVariants as message
 use Rattle.rsvp_messages.specs.declared.message.ResvMsg.{ResvMsg}
 use Rattle.rsvp_messages.specs.declared.message.ResvTearMsg.{ResvTearMsg}
 use Rattle.rsvp_messages.specs.Units.{AskedUnit, ask_style, asked_units, tear_names, tear_style}
-use Rattle.style_rules.specs.Lines.{LineKey}
+use Rattle.style_rules.specs.Lines.{LineKey, NextHop}
 use Rattle.style_rules.specs.Merge.{PartTable}
 use Rattle.style_rules.specs.PartLaws.{part_at_most_told}
 use Rattle.style_rules.proofs.StyleLaws.{common_unit}
+use Rattle.laws_inputs.specs.FactLaws.{ComesBy}
 use Rattle.laws_inputs.specs.SendLaws.{IsAskedOf, IsGone}
 use Rattle.laws_inputs.proofs.Asks.{nothing_asked, style_told, units_told}
 use Rattle.laws_inputs.proofs.Knowing.{known_and_via}
@@ -46,7 +48,7 @@ use Rattle.router_rules.specs.Steps.{facts_then, node_step, sent_then}
 use Rattle.tree_model.specs.declared.hops.End.{End}
 use Rattle.tree_model.specs.declared.hops.LinkHop.{LinkHop}
 use Rattle.tree_model.specs.Goals.{addr_of, addr_of_end}
-use Rattle.tree_model.specs.Networks.{end_at, iface_of, node_of, peers}
+use Rattle.tree_model.specs.Networks.{Net, end_at, iface_of, node_of, peers}
 use Rattle.tree_model.specs.Ranks.{rank}
 use Rattle.tree_model.specs.Trees.{hops_of, outward, tree}
 use Rattle.tree_model.proofs.Following.{has_hop_in, in_group, to_tree}
@@ -65,11 +67,12 @@ use Rattle.network_model.proofs.Stepping.{copies_made, facts_after_made, sent_ma
 use Rattle.laws_network.proofs.Known.{of_some, or_true}
 use Rattle.laws_network.proofs.Sends.{goes_to_end, goes_to_peers}
 use Rattle.laws_network.proofs.Speaking.{refreshes_are_marked, send_made}
-use Rattle.laws_network.proofs.Standing.{own_end, same_end, some_at}
+use Rattle.laws_network.proofs.Standing.{own_end, peer_there, same_end, some_at}
+use Rattle.settle_paths.specs.PreviousHops.{IsPrevious}
 use Rattle.settle_paths.proofs.PreviousHops.{ahead, ends_there, previous_hops_are_all_hops, same_by_addr}
 use Rattle.settle_resvs.specs.Said.{HopKey, IsOver, hop_over, lane_of, resv_key}
 use Rattle.settle_resvs.specs.SoftResvs.{SaysResv, line_key_of}
-use Rattle.settle_resvs.proofs.ResvSends.{IsResvSent, over_hop}
+use Rattle.settle_resvs.proofs.ResvSends.{IsResvSent}
 use Rattle.settle_resvs.proofs.SoftResvs.{resv_found, resv_made}
 use Rattle.settle_resvs.proofs.TowardNames.{parts_of_style}
 use Rattle.settle_resvs.proofs.TowardWants.{toward_is_at_most_the_want}
@@ -86,6 +89,19 @@ names_of_tear : (st : StyleKind) (names : Names) → tear_names (tear_of st name
 names_of_tear Wild names = refl
 names_of_tear Fixed names = refl
 names_of_tear Shared names = refl
+
+-- ---- what comes from a previous hop comes over a hop of its sender's tree
+pub record HasWay (net : Net) (n : ℕ) (s : Session) (hop : NextHop) (x : Sender) : Type 0 where
+  pub way : LinkHop
+  pub there : In way (tree net.hops s.group x.addr)
+  pub previous : IsPrevious net n s hop way
+
+abbrev pub HaveWays : World → Type 0
+HaveWays w = (n : ℕ) (f : Facts) (s : Session) (hop : NextHop) (x : Sender) → slice_get w.nodes n ≡ Some f → ComesBy f s hop x → HasWay w.net n s hop x
+
+-- so it does where paths are sound
+pub ways_of : (w : World) → ArePathsSound w → HaveWays w
+ways_of w sound n f s hop x at c = let a = ahead w n f sound at s hop x c in record { way = a.way; there = a.there; previous = a.previous }
 
 module _ (q : ℕ) (t : Step) (u : World) where
   -- the world after the step, where the network stays
@@ -180,12 +196,12 @@ module _ (q : ℕ) (t : Step) (u : World) where
           period = o.period;
         }
 
-    module _ (bounds' : AreBounds q left) (sound : ArePathsSound left) where
-      -- a Resv that is sent goes to the end whose address it is sent to
-      pub addressed_in_turn : (y : Item) (b : Bool) (m : ResvMsg) → In (y, b) (sent q t u) → y.arrival ≡ Spelt (message.Resv m) → y.dst ≡ addr_of u.net y.end
-      addressed_in_turn y b m i spelt =
-          let p = resv_in_turn y b m i spelt in
-          let a = ahead left p.node p.facts sound p.after p.lane.session p.lane.hop p.by.0 p.by.1 in
+    module _ (bounds' : AreBounds q left) (ways : HaveWays left) where
+      -- a Resv that is sent goes back over a hop of its group, to the end whose address it is sent to
+      pub over_way : (y : Item) (m : ResvMsg) (p : IsResvSent q u.net u.trees left y m)
+          → (h : LinkHop) × IsPrevious u.net p.node p.lane.session p.lane.hop h × (h.from ≡ y.end) × (h.to ≡ p.end) × (y.dst ≡ addr_of u.net y.end)
+      over_way y m p =
+          let a = ways p.node p.facts p.lane.session p.lane.hop p.by.0 p.after p.by.1 in
           let h = a.way in
           let there = ends_there u.net bounds.net p.lane.session.group h a.previous.there in
           let of = (interfaces_are_ends u.net).iface_of_end p.node p.lane.hop.0 p.end p.at in
@@ -193,24 +209,12 @@ module _ (q : ℕ) (t : Step) (u : World) where
           let linked : In h.to (peers u.net.links h.from) = hop_linked u.net bounds.net p.lane.session.group p.by.0.addr h a.there in
           let back : In h.from (peers u.net.links p.end) = subst (λ (z : ℕ). In h.from (peers u.net.links z)) to (peers_both u.net bounds.net h.from h.to linked) in
           let group : is_group p.lane.hop.1 ≡ false = subst (λ (z : Addr). is_group z ≡ false) a.previous.addr (host h.from there.0) in
-          p.dst ∙ sym (((where_a_send_goes u.net p.end p.lane.hop.1).one group h.from back a.previous.addr y.end).0 p.goes).1
+          let dst : y.dst ≡ addr_of u.net y.end = p.dst ∙ sym (((where_a_send_goes u.net p.end p.lane.hop.1).one group h.from back a.previous.addr y.end).0 p.goes).1 in
+          let from : h.from ≡ y.end = same_by_addr u.net bounds.net h.from y.end there.0 (peer_there u.net bounds.net p.end y.end p.to) (a.previous.addr ∙ sym p.dst ∙ dst) in
+          (h, a.previous, from, to, dst)
 
-      -- each unit of it is sound, where what nodes keep is
-      pub unit_in_turn : ((st : StyleKind) (n : ℕ) (f : Facts) (k : LineKey) (r : ResvState) → slice_get left.nodes n ≡ Some f → get (resvs_of st f) k ≡ Some r → IsSoundResv st left n k r)
-          → (y : Item) (b : Bool) (m : ResvMsg) → In (y, b) (sent q t u) → y.arrival ≡ Spelt (message.Resv m) → (v : AskedUnit) → In v (asked_units m.ask) → IsSoundUnit left y m v
-      unit_in_turn facts y b m i spelt v asks =
-          let p = resv_in_turn y b m i spelt in
-          let h = over_hop q left bounds' sound y m p (addressed_in_turn y b m i spelt) in
-          let asked : IsAskedOf (toward (place p.node) p.facts p.lane) v =
-          (units_told p.lane.style (toward (place p.node) p.facts p.lane) m.ask v (parts_of_style (place p.node) left.clock p.facts (bounds'.facts p.node p.facts p.after) p.lane) p.asks).0 asks in
-          let x = toward_is_at_most_the_want q left bounds' sound p.node p.facts p.after p.lane h.0 h.1
-          (named_below left facts p.lane.style p.node p.facts p.lane.session (rank u.net p.lane.session.group h.0) p.after) v.unit asked.part asked.there in
-          record {
-            names = asked.part.senders;
-            named = asked.names;
-            sound = subst (λ (z : StyleKind × Session × ℕ × Addr × TokenBucket). IsSoundPart z.0 left z.1 z.2 z.3 v.unit (record { senders = asked.part.senders; flow = z.4 }))
-                (λ j. (sym p.style j, sym p.session j, h.2 j, (ap (addr_of u.net) h.3 ∙ sym p.hop) j, sym asked.flow j)) x;
-          }
+      pub addressed_back : (y : Item) (b : Bool) (m : ResvMsg) → In (y, b) (sent q t u) → y.arrival ≡ Spelt (message.Resv m) → y.dst ≡ addr_of u.net y.end
+      addressed_back y b m i spelt = (over_way y m (resv_in_turn y b m i spelt)).4
 
       module _ (k : HopKey) (there : In (hop_over k) (hops_of u.net.hops k.session.group)) where
         abbrev pub asker : ℕ
@@ -220,10 +224,10 @@ module _ (q : ℕ) (t : Step) (u : World) where
         lane = lane_of u.net k
 
         -- a Resv that is sent back over the hop is sent by the node that asks, toward the end that keeps
-        same_lane : (y : Item) (m : ResvMsg) (p : IsResvSent q u.net u.trees left y m) → y.dst ≡ addr_of u.net y.end → IsOver u.net k y m.session m.hop.addr (ask_style m.ask)
+        same_lane : (y : Item) (m : ResvMsg) (p : IsResvSent q u.net u.trees left y m) → IsOver u.net k y m.session m.hop.addr (ask_style m.ask)
             → (p.node ≡ asker) × (p.lane ≡ lane)
-        same_lane y m p own_dst o =
-            let x = over_hop q left bounds' sound y m p own_dst in
+        same_lane y m p o =
+            let x = over_way y m p in
             let inside = ends_there u.net bounds.net k.session.group (hop_over k) there in
             let of = (interfaces_are_ends u.net).iface_of_end p.node p.lane.hop.0 p.end p.at in
             let end : p.end ≡ k.from = same_by_addr u.net bounds.net p.end k.from of.0 inside.1 (sym p.hop ∙ o.from) in
@@ -240,8 +244,7 @@ module _ (q : ℕ) (t : Step) (u : World) where
             → In (y, b) (sent q t u) → y.arrival ≡ Spelt (message.Resv m) → IsOver u.net k y m.session m.hop.addr (ask_style m.ask) → SaysResv u.net (resv_key u.net k) y v
         resv_asks g at v goes y b m i spelt o =
             let p = resv_in_turn y b m i spelt in
-            let own_dst = addressed_in_turn y b m i spelt in
-            let same = same_lane y m p own_dst o in
+            let same = same_lane y m p o in
             let facts : p.facts ≡ g = of_some p.facts g (sym p.after ∙ ap (λ (z : ℕ). slice_get left.nodes z) same.0 ∙ at) in
             let unit : AskedUnit = record { unit = k.unit; names = Some v.senders; flow = v.flow } in
             let asked : IsAskedOf (toward (place p.node) p.facts p.lane) unit =
@@ -250,7 +253,7 @@ module _ (q : ℕ) (t : Step) (u : World) where
             (parts_of_style (place p.node) left.clock p.facts (bounds'.facts p.node p.facts p.after) p.lane) p.asks).1 asked in
             record {
               end = o.end;
-              dst = own_dst ∙ ap (addr_of u.net) o.end;
+              dst = addressed_back y b m i spelt ∙ ap (addr_of u.net) o.end;
               resv = m;
               spelt = spelt;
               session = o.session;
@@ -284,7 +287,7 @@ module _ (q : ℕ) (t : Step) (u : World) where
             -- the hop over which it goes
             let named = (known_and_via.all_by facts x.lane x.some.0).0 (x.via_hop x.some.0 x.some.1) in
             let comes = (known_and_via.via_by facts x.lane.session x.lane.hop named.sender).0 named.among in
-            let a = ahead left r.node facts sound after x.lane.session x.lane.hop named.sender comes in
+            let a = ways r.node facts x.lane.session x.lane.hop named.sender after comes in
             let valid = bounds.net in
             let inside = ends_there u.net valid k.session.group (hop_over k) there in
             let mine = ends_there u.net valid x.lane.session.group a.way a.previous.there in
@@ -333,22 +336,22 @@ module _ (q : ℕ) (t : Step) (u : World) where
             let bad : true ≡ false = sym (ap (λ (z : Option Part). is_some z) goes) ∙ gone in
             absurd (cc)
 
-        pub all_ask : (g : Facts) → slice_get left.nodes asker ≡ Some g → (v : Part) → get (toward (place asker) g lane) k.unit ≡ Some v → (y : Item) (b : Bool) → In (y, b) (sent q t u)
+        pub all_ask_back : (g : Facts) → slice_get left.nodes asker ≡ Some g → (v : Part) → get (toward (place asker) g lane) k.unit ≡ Some v → (y : Item) (b : Bool) → In (y, b) (sent q t u)
             → IsLetter u.net k v y → SaysResv u.net (resv_key u.net k) y v
-        all_ask g at v goes y b i (inl x) = resv_asks g at v goes y b x.0 i x.1 x.2
-        all_ask g at v goes y b i (inr x) = absurd (tear_spares g at v goes y b x.0 i x.1 x.2 x.3)
+        all_ask_back g at v goes y b i (inl x) = resv_asks g at v goes y b x.0 i x.1 x.2
+        all_ask_back g at v goes y b i (inr x) = absurd (tear_spares g at v goes y b x.0 i x.1 x.2 x.3)
 
         -- ---- where what goes toward the hop is the same before and after, nothing is sent back over it
-        pub none_sent : (f : Facts) → slice_get u.nodes asker ≡ Some f → toward (place asker) f lane ≡ toward (place asker) (outcome q t u asker f).facts lane → (v : Part) (y : Item) (b : Bool)
+        pub none_sent_back : (f : Facts) → slice_get u.nodes asker ≡ Some f → toward (place asker) f lane ≡ toward (place asker) (outcome q t u asker f).facts lane → (v : Part) (y : Item) (b : Bool)
             → In (y, b) (sent q t u) → IsLetter u.net k v y → ⊥
         unfolding sent_in_turn resv_in_turn
-        none_sent f at same v y b i (inl w) =
+        none_sent_back f at same v y b i (inl w) =
             let m : ResvMsg = w.0 in
             let spelt = w.1 in
             let o = w.2 in
             let r = sent_in_turn y b (message.Resv m) i spelt in
             let p : NodeConfig = place r.node in
-            let here = same_lane y m (resv_in_turn y b m i spelt) (addressed_in_turn y b m i spelt) o in
+            let here = same_lane y m (resv_in_turn y b m i spelt) o in
             let facts : r.facts ≡ f = of_some r.facts f (sym r.there ∙ ap (λ (z : ℕ). slice_get u.nodes z) here.0 ∙ at) in
             let s = node_step p p u.clock moment r.by.input r.facts in
             let within = bounds.facts r.node r.facts r.there in
@@ -365,7 +368,7 @@ module _ (q : ℕ) (t : Step) (u : World) where
             let out : facts_then p p moment r.by.input r.facts ≡ (outcome q t u r.node r.facts).facts = ap (λ (z : Outcome). z.facts) (sym r.by.is) in
             l.5 ((λ j. toward (place (here.0 j)) (facts j) (lane_is j)) ∙ same ∙ (λ j. toward (place (sym here.0 j)) (outcome q t u (sym here.0 j) (sym facts j)).facts (sym lane_is j))
             ∙ ap (λ (z : Facts). toward p z l.0) (sym out)))
-        none_sent f at same v y b i (inr w) =
+        none_sent_back f at same v y b i (inr w) =
             let r = torn_in_turn y b w.0 i w.1 w.2 in
             let x = r.gone w.3.name (takes_told w.0 v r.names r.lists w.3) in
             let facts : r.before ≡ f = of_some r.before f (sym r.at ∙ at) in
@@ -377,13 +380,13 @@ module _ (q : ℕ) (t : Step) (u : World) where
             absurd (cc)
 
         -- ---- where it is another, a Resv is sent back over it
-        pub record IsAskedNow (v : Part) : Type 0 where
+        pub record IsAskedBack (v : Part) : Type 0 where
           pub item : Item
           pub new : In item news
           pub says : SaysResv u.net (resv_key u.net k) item v
 
         asked_now : (f : Facts) → slice_get u.nodes asker ≡ Some f → (h : Turns asker f) → (v : Part) → get (toward (place asker) (outcome q t u asker f).facts lane) k.unit ≡ Some v
-            → same_parts (toward (place asker) f lane) (toward (place asker) (settled (place asker) moment f (act (place asker) moment h.input f).facts) lane) ≡ false → IsAskedNow v
+            → same_parts (toward (place asker) f lane) (toward (place asker) (settled (place asker) moment f (act (place asker) moment h.input f).facts) lane) ≡ false → IsAskedBack v
         asked_now f at h v goes other = by (ask_of k.style whole) refl
           where
             p : NodeConfig
@@ -404,7 +407,7 @@ module _ (q : ℕ) (t : Step) (u : World) where
             here : get whole k.unit ≡ Some v
             here = ap (λ (z : PartTable). get z k.unit) (sym same) ∙ goes
 
-            by : (o : Option Ask) → ask_of k.style whole ≡ o → IsAskedNow v
+            by : (o : Option Ask) → ask_of k.style whole ≡ o → IsAskedBack v
             by None e =
                 let none : toward p (outcome q t u asker f).facts lane ≡ empty =
                 nothing_asked k.style (toward p (outcome q t u asker f).facts lane)
@@ -446,10 +449,10 @@ module _ (q : ℕ) (t : Step) (u : World) where
                       (record { end = refl; session = refl; from = own_end q u.net u.trees asker (iface_of u.net.ends k.from) k.from end; style = style_told k.style whole ask e });
                 }
 
-        pub stays_or_asked : (f : Facts) → slice_get u.nodes asker ≡ Some f
+        pub stays_or_asked_back : (f : Facts) → slice_get u.nodes asker ≡ Some f
             → (toward (place asker) f lane ≡ toward (place asker) (outcome q t u asker f).facts lane)
-            ⊎ ((v : Part) → get (toward (place asker) (outcome q t u asker f).facts lane) k.unit ≡ Some v → IsAskedNow v)
-        stays_or_asked f at =
+            ⊎ ((v : Part) → get (toward (place asker) (outcome q t u asker f).facts lane) k.unit ≡ Some v → IsAskedBack v)
+        stays_or_asked_back f at =
             ⊎_elim (λ (z : outcome q t u asker f ≡ still f). inl (ap (λ (o : Outcome). toward (place asker) o.facts lane) (sym z)))
             (λ (h : Turns asker f).
             let after : Facts = settled (place asker) moment f (act (place asker) moment h.input f).facts in
@@ -458,6 +461,51 @@ module _ (q : ℕ) (t : Step) (u : World) where
             ∙ ap (λ (o : Outcome). toward (place asker) o.facts lane) (sym h.is)))
             (λ no. inr (λ v goes. asked_now f at h v goes no)))
             (turns asker f at)
+
+    -- ---- where paths are sound
+    module _ (bounds' : AreBounds q left) (sound : ArePathsSound left) where
+      abbrev ways : HaveWays left
+      ways = ways_of left sound
+
+      pub addressed_in_turn : (y : Item) (b : Bool) (m : ResvMsg) → In (y, b) (sent q t u) → y.arrival ≡ Spelt (message.Resv m) → y.dst ≡ addr_of u.net y.end
+      addressed_in_turn = addressed_back bounds' ways
+
+      -- each unit of it is sound, where what nodes keep is
+      pub unit_in_turn : ((st : StyleKind) (n : ℕ) (f : Facts) (k : LineKey) (r : ResvState) → slice_get left.nodes n ≡ Some f → get (resvs_of st f) k ≡ Some r → IsSoundResv st left n k r)
+          → (y : Item) (b : Bool) (m : ResvMsg) → In (y, b) (sent q t u) → y.arrival ≡ Spelt (message.Resv m) → (v : AskedUnit) → In v (asked_units m.ask) → IsSoundUnit left y m v
+      unit_in_turn facts y b m i spelt v asks =
+          let p = resv_in_turn y b m i spelt in
+          let h = over_way bounds' ways y m p in
+          let asked : IsAskedOf (toward (place p.node) p.facts p.lane) v =
+          (units_told p.lane.style (toward (place p.node) p.facts p.lane) m.ask v (parts_of_style (place p.node) left.clock p.facts (bounds'.facts p.node p.facts p.after) p.lane) p.asks).0 asks in
+          let x = toward_is_at_most_the_want q left bounds' sound p.node p.facts p.after p.lane h.0 h.1
+          (named_below left facts p.lane.style p.node p.facts p.lane.session (rank u.net p.lane.session.group h.0) p.after) v.unit asked.part asked.there in
+          record {
+            names = asked.part.senders;
+            named = asked.names;
+            sound = subst (λ (z : StyleKind × Session × ℕ × Addr × TokenBucket). IsSoundPart z.0 left z.1 z.2 z.3 v.unit (record { senders = asked.part.senders; flow = z.4 }))
+                (λ j. (sym p.style j, sym p.session j, h.2 j, (ap (addr_of u.net) h.3 ∙ sym p.hop) j, sym asked.flow j)) x;
+          }
+
+      module _ (k : HopKey) (there : In (hop_over k) (hops_of u.net.hops k.session.group)) where
+        abbrev here : Facts → PartTable
+        here f = toward (place (node_of u.net.ends k.from)) f (lane_of u.net k)
+
+        abbrev then : Facts → PartTable
+        then f = here (outcome q t u (node_of u.net.ends k.from) f).facts
+
+        abbrev pub IsAskedNow : Part → Type 0
+        IsAskedNow = IsAskedBack bounds' ways k there
+
+        pub all_ask : (g : Facts) → slice_get left.nodes (node_of u.net.ends k.from) ≡ Some g → (v : Part) → get (here g) k.unit ≡ Some v → (y : Item) (b : Bool) → In (y, b) (sent q t u)
+            → IsLetter u.net k v y → SaysResv u.net (resv_key u.net k) y v
+        all_ask = all_ask_back bounds' ways k there
+
+        pub none_sent : (f : Facts) → slice_get u.nodes (node_of u.net.ends k.from) ≡ Some f → here f ≡ then f → (v : Part) (y : Item) (b : Bool) → In (y, b) (sent q t u) → IsLetter u.net k v y → ⊥
+        none_sent = none_sent_back bounds' ways k there
+
+        pub stays_or_asked : (f : Facts) → slice_get u.nodes (node_of u.net.ends k.from) ≡ Some f → (here f ≡ then f) ⊎ ((v : Part) → get (then f) k.unit ≡ Some v → IsAskedNow v)
+        stays_or_asked = stays_or_asked_back bounds' ways k there
 
     -- ---- a reservation that nothing touches stays
     module _ (hosts : AreHosts u) (paths : ArePathsSound u) (complete : ArePathsComplete u) (resvs : AreResvsSound u) (now : moment ≡ u.clock)

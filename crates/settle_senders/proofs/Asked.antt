@@ -1,9 +1,9 @@
 -- So it goes on, delivery by delivery, from a settled network in which nothing is in flight; and once no name of the sender is left each node has
 -- asked for what goes from it.
-use Rattle.std.proofs.Common.{◌≡◌, ℕ, zero, suc, ◌+◌, List, [], ◌∷◌, ◌++◌, length, Bool, true, Option, None, Some, ◌⊎◌, inl, inr, ⊎_elim, sym, refl, ap, subst, ◌∙◌, false}
-use Rattle.std.specs.Prelude.{slice_get, map as each}
-use Rattle.settle_senders.proofs.Ending.{IsLettingGo, all_came, letting_go_next, turns}
-use Rattle.settle_senders.proofs.Turning.{IsAskedNow, all_ask, stays_or_asked}
+use Rattle.std.proofs.Common.{◌≡◌, ℕ, zero, suc, List, [], ◌∷◌, ◌++◌, length, Bool, true, Option, None, Some, ◌⊎◌, inl, inr, ⊎_elim, sym, refl, ap, subst, ◌∙◌, false}
+use Rattle.std.specs.Prelude.{slice_get}
+use Rattle.settle_senders.proofs.Ending.{IsLettingGo, all_came, letting_go_next, turns, ways_before}
+use Rattle.settle_passes.proofs.Turns.{IsAskedBack, all_ask_back, stays_or_asked_back}
 use Rattle.settle_passes.proofs.Deliveries.{live_next, known_self, live_back, same_next}
 use Rattle.tree_model.specs.declared.locals.LocalWant.{LocalWant}
 use Rattle.settle_passes.proofs.Growing.{HasNoLess}
@@ -33,10 +33,8 @@ use Rattle.router_rules.specs.Inputs.{Spelt}
 use Rattle.router_rules.specs.Known.{Lane}
 use Rattle.router_rules.specs.NodeConfig.{NodeConfig}
 use Rattle.router_rules.specs.Requests.{toward}
-use Rattle.router_rules.specs.Rule.{settled}
 use Rattle.tree_model.specs.Networks.{node_of, Net}
 use Rattle.tree_model.specs.Trees.{hops_of}
-use Rattle.tree_model.proofs.TreeLaws.{one}
 use Rattle.network_model.specs.Bounds.{AreBounds}
 use Rattle.network_model.specs.Steps.{outcome, Deliver, step, sent}
 use Rattle.network_model.specs.Worlds.{Item, World, config_of}
@@ -45,7 +43,7 @@ use Rattle.laws_network.proofs.Known.{of_some}
 use Rattle.settle_resvs.specs.Said.{HopKey, resv_key, IsOver, hop_over, lane_of}
 use Rattle.settle_resvs.specs.SoftResvs.{line_key_of, AsksFor, SaysResv}
 use Rattle.settle_resvs.proofs.SoftResvs.{resv_found}
-use Rattle.settle_passes.proofs.Turns.{left, news}
+use Rattle.settle_passes.proofs.Turns.{news}
 use Rattle.rsvp_base.proofs.Members.{in_each}
 use Rattle.rsvp_base.proofs.Tables.{either}
 use Rattle.rsvp_messages.specs.declared.message.ResvTearMsg.{ResvTearMsg}
@@ -53,13 +51,12 @@ use Rattle.router_rules.specs.Asking.{stays}
 use Rattle.tree_model.specs.Goals.{DemandsFit}
 use Rattle.network_model.specs.Locals.{locals_of, IsLive}
 use Rattle.network_model.proofs.Machines.{in_arrived, in_rest}
-use Rattle.tree_model.specs.Wants.{live, names}
+use Rattle.tree_model.specs.Wants.{live}
 use Rattle.settle_resvs.specs.Laws.{AreWantParts}
 use Rattle.settle_passes.specs.Passes.{after_passes}
 use Rattle.std.specs.List.{remove}
 use Rattle.settle_passes.specs.Calls.{HasItsPaths}
 use Rattle.style_rules.specs.Merge.{PartTable}
-use Rattle.router_rules.specs.Calls.{wanted}
 use Rattle.settle_passes.proofs.Spreading.{after_deliveries, run_then}
 
 pub same_bool : (a b : Bool) → (a ≡ true → b ≡ true) → (b ≡ true → a ≡ true) → a ≡ b
@@ -126,11 +123,11 @@ module _ (q : ℕ) (d : SenderKey) (flow : TokenBucket) (w u o : World) (was : I
       let goes' : get (toward p after (lane_of u.net k)) k.unit ≡ Some v = ap (λ (z : Facts). get (toward p z (lane_of u.net k)) k.unit) (sym f.2) ∙ goes in
       let new : List Item = news q (Deliver 0) u in
       let turn = turns q d flow w u was kinds r in
-      let came = all_came q d flow w next was r'.fading r'.lived in
+      let ways = ways_before w next (all_came q d flow w next was r'.fading r'.lived) in
       let all_new : AllLike o u.net k v new =
       (λ y i l.
       let z = in_each (λ (a : Item × Bool). a.0) y (sent q (Deliver 0) u) i in
-      let says = all_ask q (Deliver 0) u w bounds turn r'.fading.bounds came kinds r'.wanted r'.within.facts k there after (facts_after_made q (Deliver 0) u n f.0 f.1) v goes' y z.0.1
+      let says = all_ask_back q (Deliver 0) u bounds turn r'.fading.bounds ways k there after (facts_after_made q (Deliver 0) u n f.0 f.1) v goes' y z.0.1
       (subst (λ (a : Item). In (a, z.0.1) (sent q (Deliver 0) u)) (sym z.2) z.1) (plain o u.net k v y l) in
       (v, says, like_itself o k v)) in
       ⊎_elim
@@ -141,10 +138,10 @@ module _ (q : ℕ) (d : SenderKey) (flow : TokenBucket) (w u o : World) (was : I
       (λ (last : IsLikeLast o u.net k v u.flight). by_flight k v x there named live new all_new u.flight refl last)
       (like k v f.0 x there f.1 (ap (λ (z : PartTable). get z k.unit) same ∙ goes') named live))
       (λ (now : (z : Part) → get (toward p after (lane_of u.net k)) k.unit ≡ Some z
-      → IsAskedNow q (Deliver 0) u w bounds turn r'.fading.bounds came kinds r'.wanted r'.within.facts k there z).
+      → IsAskedBack q (Deliver 0) u bounds turn r'.fading.bounds ways k there z).
       let a = now v goes' in
       inr (last_like_behind o u.net k v (remove u.flight 0) new (last_like o u.net k v new a.item a.new (v, a.says, like_itself o k v) all_new)))
-      (stays_or_asked q (Deliver 0) u w bounds turn r'.fading.bounds came kinds r'.wanted r'.within.facts k there f.0 f.1)
+      (stays_or_asked_back q (Deliver 0) u bounds turn r'.fading.bounds ways k there f.0 f.1)
 
 -- ---- passes, one after the other
 module _ (q : ℕ) (d : SenderKey) (flow : TokenBucket) (w o : World) (was : IsLive w d flow) (kinds : AreWantParts (locals_of w)) (fit : DemandsFit w.net (locals_of w)) where

@@ -1,6 +1,6 @@
 -- What is refused while a sender that ended is forgotten goes back over a hop, and names some of the names that were asked for over it: so an
 -- error has as many hops to go at most as the longest chain.
-use Rattle.std.proofs.Common.{◌≡◌, ℕ, ◌+◌, ◌≤◌, List, [], ◌∷◌, Bool, true, false, cond, Option, None, Some, ◌⊎◌, inl, inr, ⊎_elim, sym, refl, ap, subst, ◌∙◌}
+use Rattle.std.proofs.Common.{◌≡◌, ℕ, ◌+◌, ◌≤◌, List, [], ◌∷◌, Bool, true, false, cond, Option, None, Some, inl, inr, ⊎_elim, sym, refl, ap, subst, ◌∙◌}
 use Rattle.std.specs.Prelude.{slice_get, not, map as each}
 use Rattle.settle_senders.proofs.TakenFor.{part_taken}
 use Rattle.settle_senders.proofs.Refusing.{GoesMildly, HasPlaces, carries, of_error, placed, unit_mild}
@@ -51,7 +51,7 @@ use Rattle.tree_model.specs.declared.hops.End.{End}
 use Rattle.tree_model.specs.declared.hops.LinkHop.{LinkHop}
 use Rattle.tree_model.specs.Ranks.{longest, rank}
 use Rattle.tree_model.specs.Trees.{hops_of, tree}
-use Rattle.tree_model.proofs.Following.{in_group, to_tree, in_tree}
+use Rattle.tree_model.proofs.Following.{in_group, to_tree}
 use Rattle.tree_model.proofs.Ifaces.{interfaces_are_ends}
 use Rattle.tree_model.proofs.Links.{hop_linked}
 use Rattle.tree_model.proofs.RankLaws.{rank_falls}

@@ -44,43 +44,38 @@ use Rattle.router_rules.specs.NodeConfig.{NodeConfig, own}
 use Rattle.router_rules.specs.Requests.{toward}
 use Rattle.router_rules.specs.Rule.{Outcome, is_silent}
 use Rattle.router_rules.specs.Steps.{IsLeftOf, facts_then, node_step}
-use Rattle.tree_model.specs.declared.hops.End.{End}
 use Rattle.tree_model.specs.declared.hops.LinkHop.{LinkHop}
 use Rattle.tree_model.specs.declared.locals.LocalWant.{LocalWant}
-use Rattle.tree_model.specs.Goals.{DemandsFit, addr_of, addr_of_end}
-use Rattle.tree_model.specs.Networks.{Net, end_at, iface_of, node_of, peers}
+use Rattle.tree_model.specs.Goals.{DemandsFit, addr_of}
+use Rattle.tree_model.specs.Networks.{Net, end_at, iface_of, node_of}
 use Rattle.tree_model.specs.Ranks.{longest, rank}
 use Rattle.tree_model.specs.Trees.{outward, tree}
 use Rattle.tree_model.specs.Wants.{Locals, goes_over, live, names}
 use Rattle.tree_model.proofs.Following.{has_hop_in, in_has_hop, number_same, tree_group}
 use Rattle.tree_model.proofs.Ifaces.{interfaces_are_ends}
-use Rattle.tree_model.proofs.Links.{hop_linked, peers_both}
 use Rattle.tree_model.proofs.TreeLaws.{out_tested, the_root_has_no_inward}
 use Rattle.tree_model.proofs.WantLaws.{name_made, name_told, want_names}
 use Rattle.network_model.specs.Bounds.{AreBounds, AreHosts, IsStart}
 use Rattle.network_model.specs.Events.{pass, passes}
-use Rattle.network_model.specs.Links.{is_group}
 use Rattle.network_model.specs.Locals.{IsLive, locals_of, want_at}
 use Rattle.network_model.specs.Sound.{AreResvsSound, IsSoundPart, IsSoundUnit, TakesAll}
 use Rattle.network_model.specs.Steps.{At, Deliver, Step, input_at, is_quiet, ms_of, outcome, sent, step, still}
 use Rattle.network_model.specs.Worlds.{Item, World, config_of}
-use Rattle.network_model.proofs.Changing.{where_a_send_goes}
 use Rattle.network_model.proofs.Machines.{in_arrived, in_flight_after}
 use Rattle.network_model.proofs.NodeLocals.{is_live, node_wants, want_of_node}
 use Rattle.network_model.proofs.Quiet.{FollowsRule, arrival_takes_no_time, outcome_by, outcome_quiet}
 use Rattle.network_model.proofs.Stepping.{facts_after_found}
 use Rattle.laws_network.specs.Known.{IsSameNet}
 use Rattle.laws_network.proofs.Known.{came_there, has_some, of_some}
-use Rattle.laws_network.proofs.Standing.{end_of, own_end, peer_there, same_end, some_at}
+use Rattle.laws_network.proofs.Standing.{end_of, own_end}
 use Rattle.settle_paths.specs.PreviousHops.{IsPrevious}
 use Rattle.settle_paths.proofs.LiveSenders.{senders_found}
-use Rattle.settle_paths.proofs.PreviousHops.{ends_there, live_among, one_previous, previous_hops_are_all_hops, same_by_addr}
+use Rattle.settle_paths.proofs.PreviousHops.{live_among, one_previous, previous_hops_are_all_hops}
 use Rattle.settle_resvs.specs.GoalByIface.{goal_at}
 use Rattle.settle_resvs.specs.Laws.{AreWantParts}
 use Rattle.settle_resvs.specs.Sessions.{SessionFits}
 use Rattle.settle_resvs.specs.SoftResvs.{AsksFor, ResvKey, line_key_of, resv_at}
 use Rattle.settle_resvs.proofs.GoalByIface.{book_at, each_fits}
-use Rattle.settle_resvs.proofs.ResvSends.{IsResvSent}
 use Rattle.settle_resvs.proofs.SoftResvs.{IsAsked, WasThere, resv_found, resv_made, resv_source}
 use Rattle.settle_resvs.proofs.SoundResvs.{part_again}
 use Rattle.settle_resvs.proofs.TowardNames.{parts_of_style}
@@ -97,7 +92,7 @@ use Rattle.settle_passes.proofs.Growing.{HasNoLess}
 use Rattle.settle_passes.proofs.Leaving.{IsFading}
 use Rattle.settle_passes.proofs.SoundParts.{sound_cut}
 use Rattle.settle_passes.proofs.Spreading.{after_deliveries, run_then}
-use Rattle.settle_passes.proofs.Turns.{Turns, left, place, resv_in_turn}
+use Rattle.settle_passes.proofs.Turns.{HaveWays, Turns, addressed_back, left, over_way, place, resv_in_turn}
 use Rattle.settle_releases.proofs.Accepting.{AreResvsWithin}
 use Rattle.settle_releases.proofs.Releasing.{unless_same}
 use Rattle.settle_passes.proofs.Fitting.{as_before}
@@ -152,36 +147,15 @@ all_came q d flow w u was fading lived n f s hop x at c =
       live = live_among w s x c.path.tspec (lived (s, x) c.path.tspec p.sound.live);
     })
 
+pub ways_before : (w u : World) → AllCameBefore w u → HaveWays u
+ways_before w u came n f s hop x at c = let a = came n f s hop x at c in record { way = a.way; there = a.there; previous = a.previous }
+
 -- ---- a step by which a node follows its rule at most: what is sent asks for no more than was wanted, where nodes keep no more
 module _ (q : ℕ) (t : Step) (u w : World) (bounds : AreBounds q u) (turns : (n : ℕ) (f : Facts) → slice_get u.nodes n ≡ Some f → (outcome q t u n f ≡ still f) ⊎ Turns q t u n f)
     (bounds' : AreBounds q (left q t u)) (came : AllCameBefore w (left q t u)) (kinds : AreWantParts (locals_of w))
     (wanted : (x : LocalWant) → In x (locals_of (left q t u)).wants → HasNoLess (locals_of w).wants x) (facts : AreKeptWithin w.nodes (left q t u)) where
   abbrev after : World
   after = left q t u
-
-  -- a Resv goes back over a hop of its group
-  pub over_hop : (y : Item) (m : ResvMsg) (p : IsResvSent q u.net u.trees after y m) → (h : LinkHop) × IsPrevious u.net p.node p.lane.session p.lane.hop h × (h.from ≡ y.end) × (h.to ≡ p.end)
-      × (y.dst ≡ addr_of u.net y.end)
-  over_hop y m p =
-      let a = came p.node p.facts p.lane.session p.lane.hop p.by.0 p.after p.by.1 in
-      let h = a.way in
-      let there = ends_there u.net bounds.net p.lane.session.group h a.previous.there in
-      let of = (interfaces_are_ends u.net).iface_of_end p.node p.lane.hop.0 p.end p.at in
-      let to : h.to ≡ p.end = same_end u.net h.to p.end there.1 of.0 (a.previous.node ∙ sym of.1) (a.previous.iface ∙ sym of.2) in
-      let linked : In h.to (peers u.net.links h.from) = hop_linked u.net bounds.net p.lane.session.group p.by.0.addr h a.there in
-      let back : In h.from (peers u.net.links p.end) = subst (λ (z : ℕ). In h.from (peers u.net.links z)) to (peers_both u.net bounds.net h.from h.to linked) in
-      let host : is_group (addr_of u.net h.from) ≡ false = (let x = some_at u.net.ends h.from there.0 in ap (λ (z : Option End). is_group (addr_of_end z)) x.1 ∙ bounds.hosts h.from x.0 x.1) in
-      let group : is_group p.lane.hop.1 ≡ false = subst (λ (z : Addr). is_group z ≡ false) a.previous.addr host in
-      let dst : y.dst ≡ addr_of u.net y.end = p.dst ∙ sym (((where_a_send_goes u.net p.end p.lane.hop.1).one group h.from back a.previous.addr y.end).0 p.goes).1 in (
-        h,
-        a.previous,
-        same_by_addr u.net bounds.net h.from y.end there.0 (peer_there u.net bounds.net p.end y.end p.to) (a.previous.addr ∙ sym p.dst ∙ dst),
-        to,
-        dst,
-      )
-
-  pub addressed_to : (y : Item) (b : Bool) (m : ResvMsg) → In (y, b) (sent q t u) → y.arrival ≡ Spelt (message.Resv m) → y.dst ≡ addr_of u.net y.end
-  addressed_to y b m i spelt = (over_hop y m (resv_in_turn q t u bounds turns y b m i spelt)).4
 
   -- names via a hop are over it, by who sent before
   via : (n : ℕ) (f : Facts) → slice_get after.nodes n ≡ Some f → (l : Lane) (h : LinkHop) → IsPrevious u.net n l.session l.hop h
@@ -200,7 +174,7 @@ module _ (q : ℕ) (t : Step) (u w : World) (bounds : AreBounds q u) (turns : (n
       → IsSoundUnit (as_before w.nodes after) y m v
   unit_within y b m i spelt v asks =
       let p = resv_in_turn q t u bounds turns y b m i spelt in
-      let h = over_hop y m p in
+      let h = over_way q t u bounds turns bounds' (ways_before w after came) y m p in
       let parts = parts_of_style (place q t u p.node) after.clock p.facts (bounds'.facts p.node p.facts p.after) p.lane in
       let asked : IsAskedOf (toward (place q t u p.node) p.facts p.lane) v = (units_told p.lane.style (toward (place q t u p.node) p.facts p.lane) m.ask v parts p.asks).0 asks in
       let x = toward_is_within_what_was_wanted q w.nodes after bounds.net kinds wanted p.node p.facts p.after p.lane h.0 h.1 (via p.node p.facts p.after p.lane h.0 h.1)
@@ -307,7 +281,7 @@ module _ (q : ℕ) (d : SenderKey) (flow : TokenBucket) (w u : World) (was : IsL
     addressed = λ y m i spelt.
         ⊎_elim (λ (old : In y u.flight). r.addressed y m old spelt)
         (λ (new : (b : Bool) × In (y, b) (sent q (Deliver 0) u)).
-        addressed_to q (Deliver 0) u w bounds turns faded.bounds (all_came q d flow w next was faded lived_next) kinds wanted_next kept_within y new.0 m new.1 spelt)
+        addressed_back q (Deliver 0) u bounds turns faded.bounds (ways_before w next (all_came q d flow w next was faded lived_next)) y new.0 m new.1 spelt)
         (in_flight_after q (Deliver 0) u y refl i);
   }
 
@@ -453,7 +427,7 @@ module _ (q n : ℕ) (d : SenderKey) (w : World) (start : HasItsPaths q w) (soun
     addressed = λ y m i spelt.
         ⊎_elim (λ (old : In y w.flight). addressed y m old spelt)
         (λ (new : (b : Bool) × In (y, b) (sent q (At n call) w)).
-        addressed_to q (At n call) w w start.bounds turns_now fades_now.bounds (all_came q d flow.0 w begun was fades_now lived_now) kinds wanted_now kept_now y new.0 m new.1 spelt)
+        addressed_back q (At n call) w start.bounds turns_now fades_now.bounds (ways_before w begun (all_came q d flow.0 w begun was fades_now lived_now)) y new.0 m new.1 spelt)
         (in_flight_now y i);
   }
 

@@ -33,7 +33,7 @@ use Rattle.router_rules.specs.Rule.{Outcome}
 use Rattle.router_rules.specs.Steps.{facts_then, node_step}
 use Rattle.tree_model.specs.Networks.{node_of, end_at, iface_of, Net}
 use Rattle.tree_model.specs.Trees.{outward, tree, hops_of}
-use Rattle.tree_model.proofs.TreeLaws.{one, out_tested, the_root_has_no_inward}
+use Rattle.tree_model.proofs.TreeLaws.{out_tested, the_root_has_no_inward}
 use Rattle.network_model.specs.Bounds.{AreBounds}
 use Rattle.network_model.specs.Steps.{outcome, still, Deliver, input_at, step}
 use Rattle.network_model.specs.Worlds.{Item, World, config_of}
@@ -43,7 +43,6 @@ use Rattle.settle_paths.proofs.PreviousHops.{ends_there}
 use Rattle.settle_resvs.specs.Said.{HopKey, resv_key, IsOver, hop_over, lane_of}
 use Rattle.settle_resvs.specs.SoftResvs.{line_key_of, AsksFor, SaysResv, resv_at}
 use Rattle.settle_resvs.proofs.SoftResvs.{resv_found, resv_made}
-use Rattle.settle_passes.proofs.Turns.{left}
 use Rattle.std.specs.Ordering.{eq_by_cmp}
 use Rattle.rsvp_base.proofs.Members.{in_append}
 use Rattle.rsvp_base.proofs.SetLaws.{and_made, and_both, has-cut, has-kept}
@@ -62,11 +61,9 @@ use Rattle.network_model.specs.Locals.{locals_of, IsLive}
 use Rattle.network_model.proofs.Machines.{in_arrived}
 use Rattle.network_model.proofs.Quiet.{FollowsRule, IsCame, outcome_by, outcome_quiet}
 use Rattle.laws_network.proofs.Standing.{own_end}
-use Rattle.tree_model.specs.Wants.{live}
 use Rattle.tree_model.proofs.Following.{has_hop_in}
 use Rattle.settle_resvs.specs.Laws.{AreWantParts}
 use Rattle.rsvp_base.specs.Sets.{IsWithin}
-use Rattle.network_model.specs.Events.{passes}
 use Rattle.settle_senders.specs.Ending.{IsNameOfLive}
 
 -- ---- parts that are the same for those that send, in a world that says who does

@@ -1,12 +1,12 @@
 -- A host ends in a settled network in which nothing is in flight: what goes from each node stands, or is asked for, but for the sender.
 use Rattle.std.proofs.Common.{◌≡◌, ℕ, suc, ◌+◌, ◌*◌, ◌<◌, List, [], ◌∷◌, Bool, true, false, Option, None, Some, ◌⊎◌, inl, inr, ⊎_elim, arith, sym, refl, ap, subst, ◌∙◌}
-use Rattle.std.specs.Prelude.{slice_get, not, is_some, ◌&&◌, ◌||◌, map as each}
+use Rattle.std.specs.Prelude.{slice_get, not, is_some, ◌&&◌, ◌||◌}
 use Rattle.std.specs.List.{list_all}
 use Rattle.settle_senders.proofs.Sinking.{IsSinking, reservations_recede, sound_where_reserved}
 use Rattle.settle_senders.proofs.Wanted.{wants_named}
-use Rattle.settle_senders.proofs.Ending.{IsLettingGo, AllCameBefore, a_settled_network_takes_all, all_came, flow, kinds, lets_go, no_reservation_names_it, no_resv_names_it, turns_now, was, turns}
+use Rattle.settle_senders.proofs.Ending.{IsLettingGo, a_settled_network_takes_all, all_came, flow, kinds, lets_go, no_reservation_names_it, no_resv_names_it, turns_now, was, turns, ways_before}
 use Rattle.settle_senders.proofs.Going.{AllLike, AreAskedLike, IsKeptLike, Lives, all_like_append, last_like, last_like_behind, like_itself, kept_some, kept_less, IsKeptFor}
-use Rattle.settle_senders.proofs.Turning.{IsAskedNow, all_ask, stays_or_asked}
+use Rattle.settle_passes.proofs.Turns.{HaveWays, IsAskedBack, all_ask_back, stays_or_asked_back}
 use Rattle.settle_senders.proofs.Asked.{IsAsked, asked_next, asked_passes, asked_whole, plain, same_bool}
 use Rattle.settle_senders.proofs.Parting.{a_sender_that_ends_leaves_no_error, mute, no_rows, silent, start, unrefused}
 use Rattle.settle_senders.proofs.Refusing.{IsUnrefused, unrefused_next}
@@ -22,21 +22,20 @@ use Rattle.settle_resvs.specs.Sessions.{AreExactOf}
 use Rattle.settle_releases.proofs.Releasing.{unless_same}
 use Rattle.settle_senders.proofs.Serving.{passes_sum}
 use Rattle.tree_model.proofs.WantLaws.{name_made, name_told, want_names}
-use Rattle.tree_model.specs.Wants.{goes_over, live, names, want}
+use Rattle.tree_model.specs.Wants.{goes_over, live, names}
 use Rattle.tree_model.specs.Goals.{demand_of}
 use Rattle.rsvp_base.specs.declared.part.Part.{Part}
 use Rattle.rsvp_base.specs.declared.session.Sender.{Sender}
 use Rattle.rsvp_base.specs.declared.session.Session.{Session}
 use Rattle.rsvp_base.specs.declared.style.StyleKind.{StyleKind}
 use Rattle.rsvp_base.specs.Members.{In}
-use Rattle.rsvp_base.specs.Orders.{senders, entry_keys}
+use Rattle.rsvp_base.specs.Orders.{entry_keys}
 use Rattle.rsvp_base.specs.Table.{get, has}
 use Rattle.rsvp_base.proofs.Members.{in_each}
 use Rattle.rsvp_base.proofs.SetLaws.{and_both}
 use Rattle.rsvp_base.proofs.Tables.{same_table}
 use Rattle.style_rules.specs.Lines.{LineKey}
 use Rattle.style_rules.specs.Parts.{IsPartAtMost}
-use Rattle.router_rules.specs.Asking.{stays}
 use Rattle.router_rules.specs.Books.{book}
 use Rattle.router_rules.specs.Facts.{Facts, Want, resvs_of, SenderKey, PathState}
 use Rattle.router_rules.specs.Forgetting.{is_lost}
@@ -50,14 +49,13 @@ use Rattle.rsvp_base.specs.declared.addr.Addr.{Addr}
 use Rattle.rsvp_base.specs.Styles.{name_of}
 use Rattle.rsvp_base.specs.TokenBucket.{TokenBucket}
 use Rattle.style_rules.specs.PartLaws.{part_at_most_told, part_at_most_itself}
-use Rattle.router_rules.specs.Rule.{Outcome, settled}
+use Rattle.router_rules.specs.Rule.{Outcome}
 use Rattle.tree_model.specs.declared.locals.LocalWant.{LocalWant}
 use Rattle.tree_model.specs.Networks.{Net, iface_of, node_of}
 use Rattle.tree_model.specs.Trees.{outward, tree}
 use Rattle.tree_model.proofs.Following.{has_hop_in}
 use Rattle.tree_model.proofs.Ifaces.{interfaces_are_ends}
-use Rattle.tree_model.proofs.TreeLaws.{out_tested, the_root_has_no_inward, one}
-use Rattle.network_model.specs.Events.{passes}
+use Rattle.tree_model.proofs.TreeLaws.{out_tested, the_root_has_no_inward}
 use Rattle.network_model.specs.Locals.{IsLive, locals_of, want_at}
 use Rattle.network_model.specs.Steps.{Step, is_quiet, ms_of, still, outcome, Deliver, step, sent, At}
 use Rattle.network_model.specs.Worlds.{Item, World, config_of}
@@ -73,7 +71,7 @@ use Rattle.settle_resvs.specs.Laws.{AreWantParts}
 use Rattle.settle_passes.specs.Passes.{after_passes}
 use Rattle.settle_passes.specs.Calls.{HasItsPaths, SendsAt, after_drop}
 use Rattle.style_rules.specs.Merge.{PartTable}
-use Rattle.router_rules.specs.Calls.{wanted, call_refusal, unless}
+use Rattle.router_rules.specs.Calls.{call_refusal, unless}
 use Rattle.settle_senders.proofs.TakenFor.{known_of_live, same_addr}
 use Rattle.laws_steps.proofs.Asking.{what_keeps_a_reservation_fact}
 use Rattle.settle_paths.proofs.PreviousHops.{live_among}
@@ -83,7 +81,6 @@ use Rattle.laws_inputs.proofs.Framing.{wants_then}
 use Rattle.laws_network.specs.Known.{IsSameNet}
 use Rattle.settle_resvs.proofs.WantStyles.{want_parts}
 use Rattle.settle_passes.proofs.Calls.{IsCalled, called}
-use Rattle.settle_resvs.proofs.Accepting.{takes_all}
 use Rattle.settle_network.proofs.Reports.{entries_are_the_demand}
 
 module _ (q n : ℕ) (d : SenderKey) (w : World) (begins : IsStart q w) (settled : HasSettled q w) (quiet : w.flight ≡ []) (sends : SendsAt w n d) where
@@ -111,8 +108,8 @@ module _ (q n : ℕ) (d : SenderKey) (w : World) (begins : IsStart q w) (settled
   turn : (m : ℕ) (f : Facts) → slice_get w.nodes m ≡ Some f → (outcome q (At n call) w m f ≡ still f) ⊎ Turns q (At n call) w m f
   turn = turns_now q n d w (start q n d w begins settled quiet sends) settled.resvs_sound sends (silent q n d w begins settled quiet sends) (mute q n d w begins settled quiet sends)
 
-  came : AllCameBefore w begun
-  came = all_came q d flow_now w begun was_now going_now.fading going_now.lived
+  ways : HaveWays begun
+  ways = ways_before w begun (all_came q d flow_now w begun was_now going_now.fading going_now.lived)
 
   -- a reservation stays, with the names of those that send
   kept_begun : (k : HopKey) (v : Part) (first : Sender) → has v.senders first ≡ true → Lives begun k first → IsKeptOver w k v → IsKeptLike begun begun k v
@@ -185,7 +182,7 @@ module _ (q n : ℕ) (d : SenderKey) (w : World) (begins : IsStart q w) (settled
       let all_new : AllLike begun w.net k v new =
       (λ y i l.
       let z = in_each (λ (a : Item × Bool). a.0) y (sent q (At n call) w) i in
-      let says = all_ask q (At n call) w w begins.bounds turn going_now.fading.bounds came kinds_now going_now.wanted going_now.within.facts k there after (facts_after_made q
+      let says = all_ask_back q (At n call) w begins.bounds turn going_now.fading.bounds ways k there after (facts_after_made q
       (At n call) w m f.0 f.1) v goes' y z.0.1
       (subst (λ (a : Item). In (a, z.0.1) (sent q (At n call) w)) (sym z.2) z.1) (plain begun w.net k v y l) in
       (v, says, like_itself begun k v)) in
@@ -197,10 +194,10 @@ module _ (q n : ℕ) (d : SenderKey) (w : World) (begins : IsStart q w) (settled
       (λ (last : IsAskedLast w.net k v w.flight). let y = some_asks w.net k v w.flight last in absurd (subst (λ (z : List Item). In y.0 z) quiet y.1))
       ((settled_is_reserved q w begins settled quiet k.session).asked k v f.0 refl there f.1 (ap (λ (z : PartTable). get z k.unit) same ∙ goes')))
       (λ (now : (z : Part) → get (toward p after (lane_of w.net k)) k.unit ≡ Some z
-      → IsAskedNow q (At n call) w w begins.bounds turn going_now.fading.bounds came kinds_now going_now.wanted going_now.within.facts k there z).
+      → IsAskedBack q (At n call) w begins.bounds turn going_now.fading.bounds ways k there z).
       let a = now v goes' in
       inr (last_like_behind begun w.net k v w.flight new (last_like begun w.net k v new a.item a.new (v, a.says, like_itself begun k v) all_new)))
-      (stays_or_asked q (At n call) w w begins.bounds turn going_now.fading.bounds came kinds_now going_now.wanted going_now.within.facts k there f.0 f.1)
+      (stays_or_asked_back q (At n call) w begins.bounds turn going_now.fading.bounds ways k there f.0 f.1)
 
   -- what is wanted locally is what was
   wants_begun : (x : LocalWant) → In x (locals_of w).wants → HasNoLess (locals_of begun).wants x

@@ -10,7 +10,6 @@ pub mod Naming
 pub mod Asking
 pub mod Fewer
 pub mod Ending
-pub mod Turning
 pub mod Refusing
 pub mod TakenFor
 pub mod Going

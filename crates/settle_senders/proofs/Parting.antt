@@ -1,8 +1,8 @@
 -- When a sender has ended: what is set and said no more, of a settled network in which nothing is in flight.
-use Rattle.std.proofs.Common.{◌≡◌, true, ℕ, suc, ◌+◌, ◌*◌, List, [], ◌∷◌, length, Option, None, Some, inl, arith, sym, refl, ap, subst, ◌∙◌, zero, Bool, ◌⊎◌, inr, ⊎_elim}
-use Rattle.std.specs.Prelude.{slice_get, map as each}
+use Rattle.std.proofs.Common.{◌≡◌, true, ℕ, suc, ◌+◌, ◌*◌, List, [], ◌∷◌, length, Option, None, Some, inl, arith, sym, refl, ap, subst, ◌∙◌, zero, Bool, inr, ⊎_elim}
+use Rattle.std.specs.Prelude.{slice_get}
 use Rattle.rsvp_base.specs.Members.{In}
-use Rattle.rsvp_base.specs.Table.{get, size, has}
+use Rattle.rsvp_base.specs.Table.{get, size}
 use Rattle.rsvp_base.proofs.Counts.{found_in, in_found}
 use Rattle.rsvp_messages.specs.declared.message.Message.TheVariants as message
 use Rattle.rsvp_messages.specs.declared.message.ResvMsg.{ResvMsg}

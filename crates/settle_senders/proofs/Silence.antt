@@ -90,7 +90,7 @@ use Rattle.settle_passes.proofs.Serving.{settled_is_reserved}
 use Rattle.settle_passes.proofs.SoundParts.{named_below}
 use Rattle.settle_passes.proofs.Spreading.{after_deliveries, run_then}
 use Rattle.settle_passes.proofs.Tearing.{IsFrom, drop_or, no_rest, tail_drop}
-use Rattle.settle_passes.proofs.Turns.{Turns, left, moment, place, sent_in_turn, torn_in_turn}
+use Rattle.settle_passes.proofs.Turns.{Turns, left, moment, place, sent_in_turn, torn_in_turn, ways_of}
 use Rattle.settle_releases.specs.Releases.{HasNoMark}
 use Rattle.settle_releases.proofs.Releasing.{unless_same}
 use Rattle.settle_releases.proofs.Silence.{IsUnanswered, goes_back, resv_plain, resv_unanswered, tear_unanswered, unmarked_in_turn}
@@ -207,7 +207,7 @@ module _ (q : ℕ) (t : Step) (u : World) (bounds : AreBounds q u) (follows : (n
         let g = goes_back q t u bounds follows bounds' sound' y b m i spelt in
         let k : HopKey = g.key in
         let n : ℕ = node_of u.net.ends k.from in
-        let r = torn_in_turn q t u bounds follows bounds' sound' k g.there y b m i spelt g.over in
+        let r = torn_in_turn q t u bounds follows bounds' (ways_of (left q t u) sound') k g.there y b m i spelt g.over in
         let listed : g.names ≡ r.names = of_some g.names r.names (sym g.lists ∙ r.lists) in
         let gone = r.gone g.some.0 (ap (λ (z : Names). has z g.some.0) (sym listed) ∙ g.some.1) in
         let x = toward_is_at_most_the_want q u bounds sound n r.before r.at (lane_of u.net k) (hop_over k) (record { there = g.there; node = refl; iface = refl; addr = refl })

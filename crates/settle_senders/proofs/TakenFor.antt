@@ -1,6 +1,6 @@
 -- While a sender that ended is forgotten, each Resv that arrives is taken for those that send: its units stand with the flow that it asks for,
 -- and with their names.
-use Rattle.std.specs.Prelude.{◌≡◌, ℕ, ◌<◌, ◌==◌, nat_lt, Bool, true, false, cond, not, ◌&&◌, ◌||◌, List, [], ◌∷◌, map as each, length, is_some, Some, None, refl, Option, slice_get}
+use Rattle.std.specs.Prelude.{◌≡◌, ℕ, ◌<◌, ◌==◌, nat_lt, Bool, true, false, cond, not, ◌&&◌, ◌||◌, List, [], ◌∷◌, length, is_some, Some, None, refl, Option, slice_get}
 use Rattle.std.proofs.Common.{sym, ap, subst, ◌∙◌, inl, inr, ⊎_elim, arith, ◌+◌, ◌⊎◌}
 use Rattle.std.proofs.lemmas.Bool.{ltb-true}
 use Rattle.std.proofs.lemmas.Bool.Decides.{nat_tests}
@@ -67,24 +67,21 @@ use Rattle.tree_model.proofs.Ifaces.{interfaces_are_ends}
 use Rattle.tree_model.proofs.TreeLaws.{out_tested, the_root_has_no_inward, way_in_told}
 use Rattle.tree_model.proofs.WantLaws.{name_told, want_names}
 use Rattle.network_model.specs.Bounds.{AreBounds, IsProperArrival}
-use Rattle.network_model.specs.Events.{passes}
 use Rattle.network_model.specs.Locals.{IsLive, locals_of, want_at}
-use Rattle.network_model.specs.Steps.{Step, input_at, is_quiet, ms_of, still}
+use Rattle.network_model.specs.Steps.{Step, input_at, is_quiet, ms_of}
 use Rattle.network_model.specs.Worlds.{Item, World, config_of}
 use Rattle.network_model.proofs.Machines.{in_arrived}
 use Rattle.network_model.proofs.NodeLocals.{node_wants}
 use Rattle.network_model.proofs.Quiet.{arrival_takes_no_time, outcome_by}
 use Rattle.laws_network.proofs.Known.{came_there, of_some}
-use Rattle.laws_network.proofs.Standing.{end_of, own_end, goes_out_made}
+use Rattle.laws_network.proofs.Standing.{own_end, goes_out_made}
 use Rattle.settle_paths.proofs.LiveSenders.{senders_found}
 use Rattle.settle_resvs.specs.GoalByIface.{goal_at}
 use Rattle.settle_resvs.specs.Sessions.{SessionFits}
 use Rattle.settle_resvs.proofs.GoalByIface.{each_fits, session_can_be_held}
 use Rattle.settle_resvs.proofs.UnderTheGoal.{sound_under, want_needs}
 use Rattle.settle_passes.proofs.Deliveries.{known_self}
-use Rattle.settle_passes.proofs.Dropping.{fades}
 use Rattle.settle_passes.proofs.Leaving.{IsFading}
-use Rattle.settle_passes.proofs.Turns.{place}
 use Rattle.settle_releases.proofs.Accepting.{some_unit}
 use Rattle.settle_passes.proofs.Fitting.{as_before}
 use Rattle.settle_senders.specs.Ending.{IsNameOfLive, TakesForLive}
