@@ -346,10 +346,10 @@ def tool(name, usage, work):
     """Runs a tool over its words: what `work` yields is its output. Gives the status: 2 where words or input are of no use, 4 where the output
     cannot be written."""
     words = sys.argv[1:]
+    streams = [(sys.stdin, "input", 2), (sys.stdout, "output", 4)]
     if words in (["-h"], ["--help"]):
-        print(usage.strip())
-        return 0
-    for stream, which, status in ((sys.stdin, "input", 2), (sys.stdout, "output", 4)):
+        words, work, streams = [], lambda _: [usage.strip() + "\n"], streams[1:]
+    for stream, which, status in streams:
         if stream is None:
             print(f"{name}: {which}: it is closed", file=sys.stderr)
             return status
