@@ -1,5 +1,5 @@
 //! Lines of parts 1 and 3, one after the other.
-use crate::answers::{answers, closes, opened};
+use crate::line_answers::{answers, closes, opened};
 use std::test::*;
 
 // Lines of all parts, and three behind a report.

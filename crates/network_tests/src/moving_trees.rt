@@ -1,5 +1,5 @@
 //! Trees that move.
-use crate::answers::{answers, closes, moved, opened};
+use crate::line_answers::{answers, closes, moved, opened};
 use std::test::*;
 
 // Two ways from a node to another, of which a tree has the first.

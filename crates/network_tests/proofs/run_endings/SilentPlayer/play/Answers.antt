@@ -6,7 +6,7 @@ use Rattle.script_run.proofs.Adding.{quiet_run}
 use Rattle.script_run.specs.Asking.{to_open}
 use Rattle.script_run.proofs.Shown.{quiet_shown}
 use Rattle.script_run.specs.Checking.{IsLineTaken}
-use Rattle.script_tests.proofs.endings.SilentPlayer.play.Goals as goal
+use Rattle.network_tests.proofs.run_endings.SilentPlayer.play.Goals as goal
 
 pub returns-in-Ok-None : goal.returns-in-Ok-None
 returns-in-Ok-None g c = λ d said there run.

@@ -1,6 +1,6 @@
 //! Lines of what is left over.
-use crate::answers::{answers, opened};
-use crate::hosts::TWO_NODES;
+use crate::host_lines::TWO_NODES;
+use crate::line_answers::{answers, opened};
 use std::test::*;
 
 // What is left over, with the first fault of each that is not taken.

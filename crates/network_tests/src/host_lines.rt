@@ -1,5 +1,5 @@
 //! Lines of hosts: who sends, and who wants what.
-use crate::answers::{answers, opened};
+use crate::line_answers::{answers, opened};
 use script_checker::Checker;
 use std::alloc::Global;
 use std::test::*;
