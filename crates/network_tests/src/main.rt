@@ -9,6 +9,8 @@
 #![tactic(auto)]
 
 #[cfg(test)]
+mod command_lines;
+#[cfg(test)]
 mod commands;
 #[cfg(test)]
 mod declared_lines;

@@ -10,7 +10,7 @@ use Rattle.rsvp_base.specs.declared.style.StyleKind.TheVariants.{Wild, Fixed, Sh
 use Rattle.rsvp_base.proofs.Counts.{set_of_in}
 use Rattle.style_rules.specs.Parts.{IsOfStyle, has_name}
 use Rattle.style_rules.proofs.StyleLaws.{wild_parts, fixed_parts, shared_parts}
-use Rattle.table_tests.proofs.resvs.make_fact.Goals as goal
+use Rattle.library_tests.proofs.resv_tables.make_fact.Goals as goal
 
 only_one : (p : Part) (x s : Sender) → p.senders ≡ set_of (x ∷ []) → has p.senders s ≡ true → s ≡ x
 only_one p x s is h = ⊎_elim (λ (e : s ≡ x). e) (λ (j : ⊥). absurd j) (set_of_in senders (x ∷ []) s (ap (λ (n : Names). has n s) (sym is) ∙ h))

@@ -1,8 +1,8 @@
 //! Vectors of each kind of message, and the first faults of bytes that are none.
-use crate::messages::{
+use crate::message_vectors::{
     PATH, PATH_ADSPEC, PATH_ERR, PATH_TEAR, RESV, RESV_CONF, RESV_ERR, RESV_TEAR,
 };
-use crate::objects::{
+use crate::object_vectors::{
     ADSPEC, CONFIRM, ERROR, FF, FILTER, FLOW, HOP, INTEGRITY, NULL, OTHER_FILTER, POLICY, SE,
     SESSION, TIME, WF, WHOLE_ADSPEC, bare, joined, message,
 };

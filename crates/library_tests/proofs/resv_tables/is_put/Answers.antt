@@ -1,4 +1,4 @@
-use Rattle.table_tests.proofs.resvs.is_put.Goals as goal
+use Rattle.library_tests.proofs.resv_tables.is_put.Goals as goal
 
 pub fits-fits-requires-clause-style : goal.fits-fits-requires-clause-style
 fits-fits-requires-clause-style g c = c.make_fact-fact.ensures g.S.Style.kind_is
