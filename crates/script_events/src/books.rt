@@ -1,6 +1,6 @@
 //! The books of ends, and which of them are to be written.
 
-use event_texts::{put_book, put_members};
+use crate::book_texts::{put_book, put_members};
 use network_replay::{Router, World};
 use router_rules::Entry;
 use rsvp_base::NoMemory;

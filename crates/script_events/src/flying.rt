@@ -1,6 +1,6 @@
 //! What is in flight, by number.
 
-use event_texts::put_flight;
+use crate::flights::put_flight;
 use rsvp_base::NoMemory;
 use std::alloc::Global;
 use std::collections::VecDeque;

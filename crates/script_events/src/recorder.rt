@@ -2,13 +2,13 @@
 ghost use Rattle.std.specs.Prelude.{◌≡◌, ◌⊎◌, IfErr, IfSome};
 
 use crate::books::{Books, name_of};
+use crate::datagrams::{
+    kind_word, put_copied, put_datagram, put_delivered, put_lost, put_shown, put_went,
+};
 use crate::flying::{Flying, put_flying};
+use crate::lines::{put_end, put_line, put_report, put_round};
 use crate::senders::{From, sender_of};
 use byte_streams::{Sink, write_all};
-use event_texts::{
-    kind_word, put_copied, put_datagram, put_delivered, put_end, put_line, put_lost, put_report,
-    put_round, put_shown, put_went,
-};
 use message_decode::decode;
 use network_flight::room;
 use network_model::Event;

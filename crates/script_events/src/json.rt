@@ -1,7 +1,7 @@
 //! The parts of lines of JSON.
 ghost use Rattle.std.specs.Prelude.{◌≡◌, ◌++◌, ◌∷◌, [], OnOk};
 ghost use Rattle.std.specs.List.{flat_map};
-ghost use Rattle.event_texts.specs.Json.{address_member, close_text, count_member, escaped, event_head, hex_member, hex_text, member, text_member, word_member};
+ghost use Rattle.script_events.specs.Json.{address_member, close_text, count_member, escaped, event_head, hex_member, hex_text, member, text_member, word_member};
 ghost use Rattle.value_texts.specs.Quotes.{is_visible};
 
 use rsvp_base::{Addr, NoMemory};

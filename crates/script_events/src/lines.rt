@@ -1,6 +1,6 @@
 //! The events of lines, of rounds and of the end of a run.
 ghost use Rattle.std.specs.Prelude.{◌≡◌, ◌++◌, OnOk};
-ghost use Rattle.event_texts.specs.EventTexts.{end_event, line_event, report_event, round_event};
+ghost use Rattle.script_events.specs.EventTexts.{end_event, line_event, report_event, round_event};
 
 use crate::json::{put_close, put_count, put_event, put_text};
 use rsvp_base::NoMemory;

@@ -2,7 +2,7 @@
 ghost use Rattle.std.specs.Prelude.{◌≡◌, ◌++◌, OnOk, codes};
 ghost use Rattle.std.specs.Fmt.{decimal};
 ghost use Rattle.std.specs.List.{flat_map};
-ghost use Rattle.event_texts.specs.EventTexts.{flight_event, ids_text};
+ghost use Rattle.script_events.specs.EventTexts.{flight_event, ids_text};
 
 use crate::json::{put_close, put_event, put_member};
 use rsvp_base::NoMemory;

@@ -2,7 +2,7 @@
 ghost use Rattle.std.specs.Prelude.{◌≡◌, ◌++◌, ◌∷◌, [], OnOk, codes};
 ghost use Rattle.std.specs.List.{flat_map};
 ghost use Rattle.network_model.specs.Texts.{flag_text};
-ghost use Rattle.event_texts.specs.EventTexts.{book_event, book_members, entries_text, entry_object, flags_member, flags_word, for_members, of_members};
+ghost use Rattle.script_events.specs.EventTexts.{book_event, book_members, entries_text, entry_object, flags_member, flags_word, for_members, of_members};
 
 use crate::json::{put_close, put_count, put_event, put_member, put_word};
 use router_rules::{Entry, Police};

@@ -12,7 +12,7 @@ use Rattle.rsvp_messages.specs.declared.message.Kind.{Kind}
 use Rattle.network_model.specs.Runs.{kind_text, why_text}
 use Rattle.network_model.specs.Texts.{flag_text}
 use Rattle.value_texts.specs.Texts.{flow_text, names_text, session_text, style_text}
-use Rattle.event_texts.specs.Json.{address_member, close_text, count_member, event_head, hex_member, member, text_member, word_member}
+use Rattle.script_events.specs.Json.{address_member, close_text, count_member, event_head, hex_member, member, text_member, word_member}
 
 -- a line was taken
 unfoldable pub line_event : ℕ → ℕ → List ℕ → List ℕ

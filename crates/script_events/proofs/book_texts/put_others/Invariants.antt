@@ -1,7 +1,7 @@
 use Rattle.std.proofs.Common.{◌≡◌, ◌++◌, codes, drop}
 use Rattle.std.specs.List.{flat_map}
-use Rattle.event_texts.specs.EventTexts.{entry_object}
-use Rattle.event_texts.proofs.books.put_others.Given as goal
+use Rattle.script_events.specs.EventTexts.{entry_object}
+use Rattle.script_events.proofs.book_texts.put_others.Given as goal
 
 -- what is written and what the rest writes is the whole text
 abbrev pub invariant-loop-entry : goal.invariant-loop-entry

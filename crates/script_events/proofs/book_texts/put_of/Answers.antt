@@ -1,7 +1,7 @@
 use Rattle.std.proofs.Common.{◌≡◌, ◌++◌, ◌∙◌, ℕ, List, OnOk, codes, ap, subst, append_assoc}
 use Rattle.value_texts.specs.Texts.{session_text, style_text}
-use Rattle.event_texts.specs.EventTexts.{of_members}
-use Rattle.event_texts.proofs.books.put_of.Goals as goal
+use Rattle.script_events.specs.EventTexts.{of_members}
+use Rattle.script_events.proofs.book_texts.put_of.Goals as goal
 
 pub returns : goal.returns
 unfolding of_members

@@ -6,7 +6,7 @@ ghost use Rattle.network_model.specs.Runs.{why_text};
 ghost use Rattle.rsvp_messages.specs.Kinds.{kind_of};
 ghost use Rattle.rsvp_messages.specs.declared.fault.MsgErr.{MsgErr as AnErr};
 ghost use Rattle.rsvp_messages.specs.declared.message.Message.{Message as AMessage};
-ghost use Rattle.event_texts.specs.EventTexts.{became, but_last, copied_event, datagram_members, delivered_event, lost_event, went_members, word_of_kind};
+ghost use Rattle.script_events.specs.EventTexts.{became, but_last, copied_event, datagram_members, delivered_event, lost_event, went_members, word_of_kind};
 
 use crate::json::{put_address, put_close, put_count, put_event, put_hex, put_word};
 use message_show::{put_message, put_refusal};

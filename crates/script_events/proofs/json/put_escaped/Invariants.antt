@@ -1,7 +1,7 @@
 use Rattle.std.proofs.Common.{◌≡◌, ◌++◌, drop}
 use Rattle.std.specs.List.{flat_map}
-use Rattle.event_texts.specs.Json.{escaped}
-use Rattle.event_texts.proofs.json.put_escaped.Given as goal
+use Rattle.script_events.specs.Json.{escaped}
+use Rattle.script_events.proofs.json.put_escaped.Given as goal
 
 -- what is written and what the rest writes is the whole text
 abbrev pub invariant-loop-byte : goal.invariant-loop-byte

@@ -1,7 +1,7 @@
 use Rattle.std.proofs.Common.{◌≡◌, ◌++◌, codes, drop}
 use Rattle.std.specs.Fmt.{decimal}
 use Rattle.std.specs.List.{flat_map}
-use Rattle.event_texts.proofs.flights.put_others.Given as goal
+use Rattle.script_events.proofs.flights.put_others.Given as goal
 
 -- what is written and what the rest writes is the whole text
 abbrev pub invariant-loop-id : goal.invariant-loop-id
