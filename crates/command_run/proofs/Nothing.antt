@@ -8,8 +8,8 @@ use Rattle.script_run.proofs.Ended.{ended_at_once}
 use Rattle.script_run.specs.Standing.{IsNetworkOf}
 use Rattle.grown_player.proofs.Ended.{out_of_memory}
 use Rattle.node_stream.specs.declared.ending.Ending.TheVariants as served
-use Rattle.packet_lines.specs.declared.ending.Ending.TheVariants as police
-use Rattle.packet_lines.proofs.Ended.{ended_at_once as policed_at_once}
+use Rattle.load_policer.specs.declared.ending.Ending.TheVariants as police
+use Rattle.load_policer.proofs.Ended.{ended_at_once as policed_at_once}
 use Rattle.command_run.specs.Commands.{Does, Stands}
 use Rattle.command_run.specs.Ran.{Device, ran}
 use Rattle.command_run.specs.declared.status.Status.TheVariants.{NoMemory}

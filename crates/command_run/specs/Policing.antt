@@ -1,10 +1,10 @@
 -- Policing a stream of packets: what was taken of the source, and what was written.
 use Rattle.std.specs.Prelude.{◌≡◌, ℕ, ◌≤◌, List, length, Some}
 use Rattle.byte_streams.specs.Reading.{most_bytes}
-use Rattle.packet_lines.specs.Advice.{IsAdvised}
-use Rattle.packet_lines.specs.Endings.{ComesTo, IsPoliced}
-use Rattle.packet_lines.specs.declared.ending.Ending.{Ending}
-use Rattle.packet_lines.specs.declared.ending.Ending.TheVariants as ending
+use Rattle.load_policer.specs.Advice.{IsAdvised}
+use Rattle.load_policer.specs.Endings.{ComesTo, IsPoliced}
+use Rattle.load_policer.specs.declared.ending.Ending.{Ending}
+use Rattle.load_policer.specs.declared.ending.Ending.TheVariants as ending
 use Rattle.command_run.specs.Ran.{HasFailed, Ran}
 use Rattle.command_run.specs.Showing.{fault_of}
 use Rattle.command_run.specs.Statuses.{IsOrNoMemory}

@@ -8,7 +8,7 @@
 //! demanded. However a replay ends, what it ran is the run of the first lines of its file: at each step no book passes its capacity, no refusal changes a reservation, and blockades keep
 //! their promises, and each settled report that was written whole is the demand. It stands on `script_run` and `grown_player`
 //! for runs, on `script_theorem`, `laws_safety`, `laws_scripts` and `laws_grown` for what holds of them, on
-//! `script_demand`, on `message_show`, on `node_stream`, on `packet_lines` and on `command_line`.
+//! `script_demand`, on `message_show`, on `node_stream`, on `load_policer` and on `command_line`.
 #![tactic(auto)]
 
 mod command;

@@ -7,7 +7,7 @@ ghost use Rattle.command_run.specs.Ran.{device, ran};
 use crate::showing::fault_of;
 use crate::status::Status;
 use byte_streams::{Sink, Source};
-use packet_lines::{Ending, police};
+use load_policer::{Ending, police};
 use std::alloc::Global;
 
 /// Reads a stream of packets of the source, the flow first, and writes to the sink for each packet whether it passes, before the next

@@ -1,6 +1,6 @@
 use Rattle.std.proofs.Common.{refl, sym, ap, subst, inl, inr, ◌∙◌}
-use Rattle.packet_lines.specs.Endings.{IsOrNoMemory as IsOrOut}
-use Rattle.packet_lines.specs.declared.ending.Ending.{Ending}
+use Rattle.load_policer.specs.Endings.{IsOrNoMemory as IsOrOut}
+use Rattle.load_policer.specs.declared.ending.Ending.{Ending}
 use Rattle.command_run.specs.Policing.{Policed, police_status}
 use Rattle.command_run.specs.Ran.{device, ran}
 use Rattle.command_run.specs.Statuses.{IsOrNoMemory}

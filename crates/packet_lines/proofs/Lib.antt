@@ -1,9 +1,0 @@
-pub mod LineLaws
-pub mod Leading
-pub mod Counting
-pub mod Fed
-pub mod Finishing
-pub mod Ended
-pub mod Coming
-pub mod Bound
-mod Short
