@@ -1,8 +1,7 @@
 //! A live router is what a stream drives.
 
 use crate::live_router::LiveRouter;
-use node_frames::Place;
-use node_stream::Serves;
+use node_stream::{Place, Serves};
 use router_state::Config;
 use rsvp_base::NoMemory;
 use std::alloc::Global;

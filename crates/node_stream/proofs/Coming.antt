@@ -2,7 +2,7 @@
 use Rattle.std.proofs.Common.{◌≡◌, ◌⊎◌, ℕ, ◌<◌, ◌≤◌, List, [], ◌∷◌, ◌++◌, Option, None, Some, length, refl, sym, ap, subst, ◌∙◌, append-nil, append_assoc, arith, inl, inr}
 use Rattle.std.specs.List.{concat}
 use Rattle.byte_streams.proofs.Known.{all_known}
-use Rattle.node_frames.specs.Rules.{HasFault}
+use Rattle.node_stream.specs.Rules.{HasFault}
 use Rattle.script_words.specs.Lines.{line_number}
 use Rattle.script_words.specs.declared.fault.LineWhy.{LineWhy}
 use Rattle.node_stream.specs.Frames.{contents_in, kind_in}

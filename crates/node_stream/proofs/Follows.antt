@@ -3,11 +3,11 @@ use Rattle.std.proofs.Common.{◌≡◌, ℕ, List, ◌++◌, Option, None, Some
 use Rattle.std.proofs.lemmas.Option.{same_Some}
 use Rattle.message_decode.proofs.OneAnswer.{a_message_is_one, no_fault_where_spelt, the_first_fault_is_one}
 use Rattle.network_replay.specs.Following.{IsArrival}
-use Rattle.node_frames.specs.Answers.{heard_frame}
-use Rattle.node_frames.specs.Layout.{datagram_in}
-use Rattle.node_frames.specs.Rules.{HasFault, IsInRange, IsInTurn, IsOutOfRange, IsOutOfTurn}
-use Rattle.node_frames.specs.declared.frame.Frame.{Frame}
-use Rattle.node_frames.specs.declared.frame.Frame.TheVariants.{Opens, Comes, Waits, Clears}
+use Rattle.node_stream.specs.Answers.{heard_frame}
+use Rattle.node_stream.specs.Layout.{datagram_in}
+use Rattle.node_stream.specs.Rules.{HasFault, IsInRange, IsInTurn, IsOutOfRange, IsOutOfTurn}
+use Rattle.node_stream.specs.declared.frame.Frame.{Frame}
+use Rattle.node_stream.specs.declared.frame.Frame.TheVariants.{Opens, Comes, Waits, Clears}
 use Rattle.router_rules.specs.Inputs.{Arrival, Came, Input, Spelt, Unspelt}
 use Rattle.router_rules.specs.NodeConfig.{NodeConfig}
 use Rattle.router_rules.specs.Rule.{heard_after}

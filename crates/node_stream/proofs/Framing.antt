@@ -1,7 +1,7 @@
 -- Bytes are cut into frames in one way.
 use Rattle.std.proofs.Common.{◌≡◌, ℕ, ◌+◌, ◌<◌, ◌≤◌, List, [], ◌∷◌, ◌++◌, length, drop, take, refl, sym, ap, ◌∙◌, arith, length-append}
 use Rattle.std.proofs.Math.Seq.{drop-append_seam, take-append_seam}
-use Rattle.node_frames.specs.Layout.{length_at}
+use Rattle.node_stream.specs.Layout.{length_at}
 use Rattle.node_stream.specs.Frames.{IsFrame, IsPart}
 
 -- what stands behind the head says nothing about the length

@@ -3,7 +3,7 @@ use Rattle.std.proofs.Common.{◌≡◌, ℕ, ◌+◌, ◌<◌, ◌≤◌, List,
 use Rattle.std.specs.Prelude.{nat_eq}
 use Rattle.std.proofs.lemmas.Bool.{eqb-true}
 use Rattle.std.specs.Io.KnownBytes.{Consumes}
-use Rattle.node_frames.proofs.Faults.{blame_is_fault}
+use Rattle.node_stream.proofs.Faults.{blame_is_fault}
 use Rattle.network_replay.specs.Following.{Seen}
 use Rattle.node_stream.specs.Endings.{IsAdvised, IsServed, most_bytes}
 use Rattle.node_stream.specs.Frames.{IsFrame, contents_in, kind_in}

@@ -1,3 +1,8 @@
+pub mod Faults
+pub mod Forms
+pub mod Placed
+pub mod Texts
+mod Short
 pub mod Framing
 pub mod Follows
 pub mod Coming

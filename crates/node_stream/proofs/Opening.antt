@@ -3,14 +3,14 @@ use Rattle.std.proofs.Common.{◌≡◌, ℕ, ◌/◌, ◌≤◌, false, true, L
 use Rattle.std.specs.Prelude.{IfOk, Result, Ok, Err}
 use Rattle.std.proofs.lemmas.List.FromFn.{length-map-range_with_len}
 use Rattle.network_replay.specs.Following.{Seen}
-use Rattle.node_frames.specs.Layout.{frame_of, iface_at, iface_count, period_in}
-use Rattle.node_frames.specs.Placing.{IsBadPlace, place_of}
-use Rattle.node_frames.specs.Rules.{AreNumbersInRange, IsInRange, IsInTurn, IsPlace, place_in}
-use Rattle.node_frames.specs.declared.frame.Frame.{Frame}
-use Rattle.node_frames.specs.declared.frame.Frame.TheVariants.{Opens, Comes, Waits, Clears}
-use Rattle.node_frames.specs.declared.placing.Place.{Place}
-use Rattle.node_frames.specs.declared.placing.PlaceErr.{PlaceErr}
-use Rattle.node_frames.specs.declared.placing.PlaceErr.TheVariants as err
+use Rattle.node_stream.specs.Layout.{frame_of, iface_at, iface_count, period_in}
+use Rattle.node_stream.specs.Placing.{IsBadPlace, place_of}
+use Rattle.node_stream.specs.Rules.{AreNumbersInRange, IsInRange, IsInTurn, IsPlace, place_in}
+use Rattle.node_stream.specs.declared.frame.Frame.{Frame}
+use Rattle.node_stream.specs.declared.frame.Frame.TheVariants.{Opens, Comes, Waits, Clears}
+use Rattle.node_stream.specs.declared.placing.Place.{Place}
+use Rattle.node_stream.specs.declared.placing.PlaceErr.{PlaceErr}
+use Rattle.node_stream.specs.declared.placing.PlaceErr.TheVariants as err
 use Rattle.router_rules.proofs.Bounding.{no_facts_are_within_bounds}
 use Rattle.router_rules.specs.Bounds.{IsWithinBounds}
 use Rattle.router_rules.specs.Facts.{Facts, no_facts}

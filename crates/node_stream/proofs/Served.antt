@@ -6,12 +6,12 @@ use Rattle.std.proofs.KnownBytes.{Appends-nil, Appends-trans, Consumes-nil, Cons
 use Rattle.std.proofs.lemmas.List.Folds.{concat-append}
 use Rattle.byte_streams.proofs.Known.{all_known}
 use Rattle.byte_streams.specs.Lines.{all_bytes}
-use Rattle.node_frames.specs.Advice.{IsAdvice}
-use Rattle.node_frames.specs.Blames.{why_of}
-use Rattle.node_frames.specs.Layout.{frame_of}
-use Rattle.node_frames.specs.Rules.{AreNumbersInRange, HasFault}
-use Rattle.node_frames.specs.declared.blame.Blame.{Blame}
-use Rattle.node_frames.specs.declared.frame.Frame.TheVariants.{Opens}
+use Rattle.node_stream.specs.Advice.{IsAdvice}
+use Rattle.node_stream.specs.Blames.{why_of}
+use Rattle.node_stream.specs.Layout.{frame_of}
+use Rattle.node_stream.specs.Rules.{AreNumbersInRange, HasFault}
+use Rattle.node_stream.specs.declared.blame.Blame.{Blame}
+use Rattle.node_stream.specs.declared.frame.Frame.TheVariants.{Opens}
 use Rattle.script_words.specs.Lines.{line_number}
 use Rattle.script_words.specs.declared.fault.LineWhy.{LineWhy}
 use Rattle.script_words.specs.declared.fault.LineWhy.TheVariants as why

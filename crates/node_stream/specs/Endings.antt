@@ -5,13 +5,13 @@ use Rattle.byte_streams.specs.Runs.{IsRun}
 use Rattle.script_words.specs.Lines.{line_number}
 use Rattle.script_words.specs.declared.fault.LineWhy.{LineWhy}
 use Rattle.script_words.specs.declared.fault.LineWhy.TheVariants as why
-use Rattle.node_frames.specs.Advice.{IsAdvice}
-use Rattle.node_frames.specs.Blames.{IsBlamed, why_of}
-use Rattle.node_frames.specs.Layout.{frame_of, length_at}
-use Rattle.node_frames.specs.Rules.{AreNumbersInRange, HasFault}
-use Rattle.node_frames.specs.declared.blame.Blame.{Blame}
-use Rattle.node_frames.specs.declared.blame.Blame.TheVariants.{Head, Cut}
-use Rattle.node_frames.specs.declared.frame.Frame.TheVariants.{Opens}
+use Rattle.node_stream.specs.Advice.{IsAdvice}
+use Rattle.node_stream.specs.Blames.{IsBlamed, why_of}
+use Rattle.node_stream.specs.Layout.{frame_of, length_at}
+use Rattle.node_stream.specs.Rules.{AreNumbersInRange, HasFault}
+use Rattle.node_stream.specs.declared.blame.Blame.{Blame}
+use Rattle.node_stream.specs.declared.blame.Blame.TheVariants.{Head, Cut}
+use Rattle.node_stream.specs.declared.frame.Frame.TheVariants.{Opens}
 use Rattle.node_stream.specs.Frames.{IsFrame, IsFront, IsPart, contents_in, kind_in}
 use Rattle.node_stream.specs.Serving.{HasRun, Standing, place_if}
 use Rattle.node_stream.specs.declared.ending.Ending.{Ending}

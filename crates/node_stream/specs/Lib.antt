@@ -1,3 +1,9 @@
+pub mod Layout
+pub mod Rules
+pub mod Blames
+pub mod Placing
+pub mod Advice
+pub mod Answers
 pub mod Frames
 pub mod Serving
 pub mod Endings

@@ -3,11 +3,11 @@ use Rattle.std.specs.Prelude.{◌≡◌, ℕ, List, [], ◌∷◌, ◌++◌, Opt
 use Rattle.std.specs.List.{flat_map}
 use Rattle.message_encode.specs.Encoding.{encoding}
 use Rattle.network_replay.specs.Following.{IsArrival}
-use Rattle.node_frames.specs.Answers.{heard_frame, sent_frame}
-use Rattle.node_frames.specs.Layout.{datagram_in, frame_of}
-use Rattle.node_frames.specs.Rules.{IsInRange, IsInTurn, place_in}
-use Rattle.node_frames.specs.declared.frame.Frame.{Frame}
-use Rattle.node_frames.specs.declared.frame.Frame.TheVariants.{Opens, Comes, Waits, Clears}
+use Rattle.node_stream.specs.Answers.{heard_frame, sent_frame}
+use Rattle.node_stream.specs.Layout.{datagram_in, frame_of}
+use Rattle.node_stream.specs.Rules.{IsInRange, IsInTurn, place_in}
+use Rattle.node_stream.specs.declared.frame.Frame.{Frame}
+use Rattle.node_stream.specs.declared.frame.Frame.TheVariants.{Opens, Comes, Waits, Clears}
 use Rattle.router_rules.specs.Facts.{Facts, no_facts}
 use Rattle.router_rules.specs.Inputs.{Arrival, Came, Clear, Input, Send, Wait}
 use Rattle.router_rules.specs.NodeConfig.{NodeConfig}

@@ -1,9 +1,9 @@
 -- Where the router of a stream stands, as code has it.
 use Rattle.std.specs.Prelude.{◌≡◌, ℕ, ◌≤◌, List, length, Option, None, Some, is_some}
 use Rattle.network_replay.specs.Following.{IsArrival, Seen}
-use Rattle.node_frames.specs.Layout.{frame_of}
-use Rattle.node_frames.specs.Rules.{IsInRange, IsInTurn}
-use Rattle.node_frames.specs.declared.frame.Frame.{Frame}
+use Rattle.node_stream.specs.Layout.{frame_of}
+use Rattle.node_stream.specs.Rules.{IsInRange, IsInTurn}
+use Rattle.node_stream.specs.declared.frame.Frame.{Frame}
 use Rattle.router_rules.specs.Bounds.{IsWithinBounds}
 use Rattle.router_rules.specs.Inputs.{Arrival, Came, Input}
 use Rattle.router_rules.specs.NodeConfig.{NodeConfig}

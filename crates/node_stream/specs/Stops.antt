@@ -1,12 +1,12 @@
 -- Why a frame was not served.
 use Rattle.std.specs.Prelude.{◌≡◌, ℕ, List, Option, None, Some}
-use Rattle.node_frames.specs.Advice.{IsAdvice}
-use Rattle.node_frames.specs.Blames.{IsBlamed, IsPlaceBlame, why_of}
-use Rattle.node_frames.specs.Layout.{frame_of}
-use Rattle.node_frames.specs.Rules.{AreNumbersInRange}
-use Rattle.node_frames.specs.declared.frame.Frame.TheVariants.{Opens}
-use Rattle.node_frames.specs.declared.placing.PlaceErr.{PlaceErr}
-use Rattle.node_frames.specs.declared.placing.PlaceErr.TheVariants as place
+use Rattle.node_stream.specs.Advice.{IsAdvice}
+use Rattle.node_stream.specs.Blames.{IsBlamed, IsPlaceBlame, why_of}
+use Rattle.node_stream.specs.Layout.{frame_of}
+use Rattle.node_stream.specs.Rules.{AreNumbersInRange}
+use Rattle.node_stream.specs.declared.frame.Frame.TheVariants.{Opens}
+use Rattle.node_stream.specs.declared.placing.PlaceErr.{PlaceErr}
+use Rattle.node_stream.specs.declared.placing.PlaceErr.TheVariants as place
 use Rattle.node_stream.specs.Serving.{Standing, place_if}
 use Rattle.node_stream.specs.declared.ending.Ending.{Ending}
 use Rattle.node_stream.specs.declared.ending.Ending.TheVariants as ending

@@ -1,9 +1,9 @@
 //! A router does what a frame says.
 ghost use Rattle.std.specs.Prelude.{◌≡◌, ◌≤◌, ◌<◌, ◌+◌, ◌*◌, [], ℕ, length, true, None, Some, IfOk, IfErr, OnOk};
 ghost use Rattle.laws_counts.specs.CountLaws.{most_sends};
-ghost use Rattle.node_frames.specs.Layout as layout;
-ghost use Rattle.node_frames.specs.Blames.{IsOpenBlame};
-ghost use Rattle.node_frames.specs.Rules.{IsInRange, IsInTurn, IsPlace, place_in};
+ghost use Rattle.node_stream.specs.Layout as layout;
+ghost use Rattle.node_stream.specs.Blames.{IsOpenBlame};
+ghost use Rattle.node_stream.specs.Rules.{IsInRange, IsInTurn, IsPlace, place_in};
 ghost use Rattle.router_rules.specs.Facts.{no_facts};
 ghost use Rattle.router_rules.specs.Inputs.{Came, Clear, Spelt, Unspelt, Wait};
 ghost use Rattle.router_rules.specs.Rule.{heard_after};
@@ -14,13 +14,16 @@ ghost use Rattle.node_stream.specs.Serving.{IsHeard};
 ghost use Rattle.node_stream.specs.Stops.{IsStopped, IsUnopened};
 ghost use Rattle.node_stream.specs.States.{AreLimits, HasAnswered, HasDone, IsMeasured, IsServedAs, IsServedBy, IsSound, IsTakenIn, IsWithin, stand, stands_at};
 
-use crate::answers::Answers;
+use crate::blame::Blame;
+use crate::frame::{Frame, datagram_in, frame_at};
+use crate::placing::{PlaceErr, read_place};
+use crate::posting::Answers;
+use crate::range::fault_of;
 use crate::reading::HEAD;
 use crate::serves::Serves;
 use crate::state::{Limits, Stop};
 use message_decode::decode;
 use message_encode::know_range;
-use node_frames::{Blame, Frame, PlaceErr, datagram_in, fault_of, frame_at, read_place};
 use router_rules::Heard;
 use rsvp_base::Addr;
 use rsvp_messages::{Message, MsgErr};

@@ -1,93 +1,61 @@
-//! The answers that wait to be written.
-ghost use Rattle.std.specs.Prelude.{◌≡◌, ◌≤◌, ◌+◌, ◌++◌, IfOk};
-ghost use Rattle.laws_counts.specs.CountLaws.{most_sends};
-ghost use Rattle.node_frames.specs.Answers.{heard_frame};
-ghost use Rattle.node_stream.specs.Posting.{nothing_posted, with_post};
+//! The frames with which a router answers.
+ghost use Rattle.std.specs.Prelude.{◌≡◌, ◌≤◌, ◌+◌, ◌++◌, length, vec_len, vec_capacity};
+ghost use Rattle.node_stream.specs.Answers.{heard_frame, sent_frame, why_number};
 
-use message_encode::encode_into;
-use node_frames::{put_heard, put_sent};
-use object_fields::Packet;
-use router_rules::{Heard, Outbox};
-use rsvp_base::{Addr, NoMemory};
-use rsvp_messages::Message;
-use std::alloc::Global;
-use std::marker::Model;
+use router_rules::{Heard, Why};
+use rsvp_base::Addr;
 
-// The most messages for one input.
-const MOST_SENDS: usize = 37_889;
-
-// Room for the frames of as many messages, of at most 1,024 bytes each, and for one that says what was made of a datagram.
-const ROOM: usize = 1032 * (MOST_SENDS + 1);
-
-/// The outbox of a stream: the frames with which a router answers one that came. They have room, which is taken at opening. Of memory
-/// only as much is ever touched as the answers of one frame need.
-#[derive(Drop)]
-pub struct Answers {
-    bytes: Vec<u8>,
-    count: usize,
-    // The message that was put last: it is written here, and then copied.
-    packet: Packet,
+/// Appends the frame of a datagram that goes out by an interface, to an address. There is room for it.
+pub fn put_sent(out: &mut Vec<u8>, iface: u8, dst: Addr, datagram: &[u8])
+    requires few { length datagram.now ≤ 65530 }
+    requires room { vec_len out.old + 8 + length datagram.now ≤ vec_capacity out.old }
+    ensures items { out.new.items ≡ out.old.items ++ sent_frame iface dst datagram.now }
+    ensures len { vec_len out.new ≡ vec_len out.old + 8 + length datagram.now }
+    ensures capacity { vec_capacity out.old ≤ vec_capacity out.new }
+{
+    let l = (5 + datagram.len() as u16).to_be_bytes();
+    let d = dst.0.to_be_bytes();
+    put(out, &[16, l[0], l[1], iface, d[0], d[1], d[2], d[3]]);
+    put(out, datagram);
 }
 
-impl Model for Answers {
-    ghost use Rattle.std.specs.Prelude.{◌≤◌, ◌+◌, ◌*◌, vec_len, vec_capacity};
-    ghost use Rattle.laws_counts.specs.CountLaws.{most_sends};
-    ghost use Rattle.node_stream.specs.Posting.{Posted};
-
-    ghost Value = { Posted };
-
-    ghost view = { λ a. record { bytes = a.bytes.items; count = a.count } };
-
-    ghost invariant = { λ a. (vec_len a.bytes ≤ 1032 * a.count) × (a.count ≤ most_sends + 1) × (1032 * (most_sends + 1) ≤ vec_capacity a.bytes) };
-}
-
-impl Outbox for Answers {
-    ghost posted = { with_post };
-
-    fn post(&mut self, iface: u8, dst: Addr, message: &Message, refresh: bool) {
-        let _ = refresh;
-        if self.count < MOST_SENDS {
-            encode_into(message, &mut self.packet);
-            put_sent(&mut self.bytes, iface, dst, self.packet.bytes());
-            self.count += 1;
+/// Appends the frame that says what was made of a datagram. There is room for it.
+pub fn put_heard(out: &mut Vec<u8>, heard: Heard)
+    requires room { vec_len out.old + 7 ≤ vec_capacity out.old }
+    ensures items { out.new.items ≡ out.old.items ++ heard_frame heard }
+    ensures len { vec_len out.new ≤ vec_len out.old + 7 }
+    ensures capacity { vec_capacity out.old ≤ vec_capacity out.new }
+{
+    match heard {
+        Heard::Taken => put(out, &[17, 0, 1, 0]),
+        Heard::Dropped(why) => put(out, &[17, 0, 2, 1, why_number(why)]),
+        Heard::Answered(code, value) => {
+            let v = value.to_be_bytes();
+            put(out, &[17, 0, 4, 2, code, v[0], v[1]]);
         }
     }
 }
 
-impl Answers {
-    /// None. `NoMemory`: there was no room for those of one input.
-    pub fn open(alloc: Global) -> Result<Answers, NoMemory>
-        ensures { IfOk result (λ a. a ≡ nothing_posted) }
-    {
-        let bytes = Vec::with_capacity(alloc, ROOM)?;
-        Ok(Answers {
-            bytes,
-            count: 0,
-            packet: Packet::new(),
-        })
+fn why_number(why: Why) -> u8
+    ensures { result ≡ why_number why }
+{
+    match why {
+        Why::Unspelt => 0,
+        Why::NotMine => 1,
+        Why::NoSender => 2,
+        Why::NotInward => 3,
+        Why::NotOutward => 4,
+        Why::NoState => 5,
+        Why::Full => 6,
     }
+}
 
-    /// None again.
-    pub fn clear(&mut self)
-        ensures { self.new ≡ nothing_posted }
-    {
-        self.bytes.clear();
-        self.count = 0;
-    }
-
-    /// Puts what was made of a datagram behind the others.
-    pub fn put_heard(&mut self, heard: Heard)
-        requires { self.old.count ≤ most_sends }
-        ensures { self.new.bytes ≡ self.old.bytes ++ heard_frame heard }
-    {
-        put_heard(&mut self.bytes, heard);
-        self.count += 1;
-    }
-
-    /// Their bytes.
-    pub fn bytes(&self) -> &[u8]
-        ensures { result.now ≡ self.now.bytes }
-    {
-        self.bytes.as_slice()
-    }
+// Appends bytes for which there is room.
+fn put(out: &mut Vec<u8>, bytes: &[u8])
+    requires { vec_len out.old + length bytes.now ≤ vec_capacity out.old }
+    ensures items { out.new.items ≡ out.old.items ++ bytes.now }
+    ensures len { vec_len out.new ≡ vec_len out.old + length bytes.now }
+    ensures capacity { vec_capacity out.old ≤ vec_capacity out.new }
+{
+    let _ = out.extend_from_slice(bytes);
 }

@@ -2,11 +2,11 @@
 ghost use Rattle.std.specs.Prelude.{◌≡◌, ◌≢◌, ◌≤◌, ◌<◌, ◌+◌, ◌++◌, [], List, ℕ, length, IfOk, OnErr, OnOk, vec_len, vec_capacity};
 ghost use Rattle.std.specs.Io.KnownBytes.{Consumes, IsAtEnd};
 ghost use Rattle.byte_streams.specs.Faults.{Rose};
-ghost use Rattle.node_frames.specs.Layout.{length_at};
+ghost use Rattle.node_stream.specs.Layout.{length_at};
 ghost use Rattle.node_stream.specs.Reading.{IsRead};
 
+use crate::frame::length_at;
 use byte_streams::{Failed, Source};
-use node_frames::length_at;
 
 /// The bytes of a head.
 pub(crate) const HEAD: usize = 3;

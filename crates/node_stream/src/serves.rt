@@ -2,11 +2,11 @@
 ghost use Rattle.std.specs.Prelude.{◌≡◌, ◌≤◌, ℕ, length, IfOk};
 ghost use Rattle.rsvp_base.specs.Rows.{AreRows};
 ghost use Rattle.router_rules.specs.Facts.{no_facts};
-ghost use Rattle.node_frames.specs.Placing.{place_of, tree_row};
-ghost use Rattle.node_frames.specs.Rules.{tree_keys};
+ghost use Rattle.node_stream.specs.Placing.{place_of, tree_row};
+ghost use Rattle.node_stream.specs.Rules.{tree_keys};
 
+use crate::placing::Place;
 use network_replay::Router;
-use node_frames::Place;
 use rsvp_base::NoMemory;
 use std::alloc::Global;
 

@@ -3,22 +3,24 @@ ghost use Rattle.std.specs.Prelude.{◌≡◌, ◌≢◌, ◌≤◌, ◌<◌, Li
 ghost use Rattle.byte_streams.specs.Faults.{Rose};
 ghost use Rattle.script_words.specs.declared.fault.LineWhy.TheVariants as why;
 ghost use Rattle.line_advice.specs.Blamed.{most_advice};
-ghost use Rattle.node_frames.specs.Advice.{IsAdvice};
-ghost use Rattle.node_frames.specs.Blames.{why_of};
+ghost use Rattle.node_stream.specs.Advice.{IsAdvice};
+ghost use Rattle.node_stream.specs.Blames.{why_of};
 ghost use Rattle.node_stream.specs.Endings.{ComesTo, IsAdvised, IsCutBlame, IsOrNoMemory, IsServed, most_bytes};
 ghost use Rattle.node_stream.specs.Frames.{IsPart};
 ghost use Rattle.node_stream.specs.Stops.{IsAdvisedAt, ending_at};
 ghost use Rattle.node_stream.specs.declared.ending.Ending.{Ending as AnEnding};
 
 use crate::acting::serve_frame;
-use crate::answers::Answers;
+use crate::advice::put_advice;
+use crate::blame::{Blame, why_of};
 use crate::ending::Ending;
+use crate::frame::length_at;
+use crate::posting::Answers;
 use crate::reading::{HEAD, Read, read_frame};
 use crate::serves::Serves;
 use crate::state::{Limits, Stop};
 use byte_streams::{Sink, Source, write_all};
 use line_advice::make_room;
-use node_frames::{Blame, length_at, put_advice, why_of};
 use rsvp_base::NoMemory;
 use std::alloc::Global;
 

@@ -1,6 +1,7 @@
 //! What is kept of an open router beside it, and why a frame is not served.
 
-use node_frames::{Blame, PlaceErr};
+use crate::blame::Blame;
+use crate::placing::PlaceErr;
 use rsvp_base::NoMemory;
 
 /// What the frames of an open router are measured by: how many interfaces it has, and a quarter of its period, in milliseconds.

@@ -1,6 +1,6 @@
 use Rattle.std.proofs.Common.{Some, subst}
-use Rattle.node_frames.specs.Rules.{IsInRange}
-use Rattle.node_frames.specs.declared.frame.Frame.{Frame}
+use Rattle.node_stream.specs.Rules.{IsInRange}
+use Rattle.node_stream.specs.declared.frame.Frame.{Frame}
 use Rattle.node_stream.proofs.acting.act.Goals as goal
 
 pub come-requires-clause-iface : goal.come-requires-clause-iface

@@ -1,5 +1,5 @@
 use Rattle.std.proofs.Common.{List, ℕ, ◌++◌, ◌∙◌, ap}
-use Rattle.node_frames.specs.Answers.{heard_frame}
+use Rattle.node_stream.specs.Answers.{heard_frame}
 use Rattle.router_rules.specs.Inputs.{Came}
 use Rattle.router_rules.specs.declared.answers.Heard.{Heard}
 use Rattle.node_stream.specs.Serving.{frames_with, sends_for}

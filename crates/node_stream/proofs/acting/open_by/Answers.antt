@@ -1,5 +1,5 @@
 use Rattle.std.proofs.Common.{None, Some, refl, ap, ◌∙◌}
-use Rattle.node_frames.proofs.Forms.{opens_form}
+use Rattle.node_stream.proofs.Forms.{opens_form}
 use Rattle.node_stream.proofs.Opening.{opened_by, opens_first}
 use Rattle.node_stream.proofs.acting.open_by.Goals as goal
 

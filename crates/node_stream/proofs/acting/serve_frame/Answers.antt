@@ -1,6 +1,6 @@
 use Rattle.std.proofs.Common.{ℕ, List, subst}
 use Rattle.std.specs.Prelude.{IfErr}
-use Rattle.node_frames.proofs.Texts.{then_ok}
+use Rattle.node_stream.proofs.Texts.{then_ok}
 use Rattle.node_stream.specs.Frames.{contents_in}
 use Rattle.node_stream.specs.States.{stand}
 use Rattle.node_stream.specs.Stops.{IsStopped}
