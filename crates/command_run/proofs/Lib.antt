@@ -1,3 +1,4 @@
+mod Digits
 pub mod Answering
 pub mod WholeLines
 pub mod FirstLines

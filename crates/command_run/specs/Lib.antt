@@ -1,3 +1,6 @@
+pub mod CommandLine
+pub mod Orders
+pub mod Laws
 pub mod Tasks
 pub mod Statuses
 pub mod Ran

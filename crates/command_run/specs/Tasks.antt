@@ -1,9 +1,9 @@
 -- The tasks of the program, and which words order one.
 use Rattle.std.specs.Prelude.{ℕ, List, Option}
 use Rattle.std.specs.Option.{option_map}
-use Rattle.command_line.specs.Orders.{order_of}
-use Rattle.command_line.specs.declared.order.Order.{Order}
-use Rattle.command_line.specs.declared.order.Order.TheVariants as order
+use Rattle.command_run.specs.Orders.{order_of}
+use Rattle.command_run.specs.declared.order.Order.{Order}
+use Rattle.command_run.specs.declared.order.Order.TheVariants as order
 use Rattle.command_run.specs.declared.task.Task.{Task}
 use Rattle.command_run.specs.declared.task.Task.TheVariants.{Replay, Demand, Show, Grow, Node, Police}
 

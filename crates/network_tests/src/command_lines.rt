@@ -1,5 +1,5 @@
 //! Command lines read with memory enough.
-use command_line::{NoOrder, Order, read_order};
+use command_run::{NoOrder, Order, read_order};
 use std::test::Fail;
 
 #[test]

@@ -1,5 +1,5 @@
 //! Laws of the command line.
-ghost use Rattle.command_line.specs.Laws.{EachVerbIsAnOrder, OtherWordsAreNone};
+ghost use Rattle.command_run.specs.Laws.{EachVerbIsAnOrder, OtherWordsAreNone};
 
 /// Each verb by itself is its order; a seed may stand with `grow`, before it or behind.
 pub fn each_verb_is_an_order()

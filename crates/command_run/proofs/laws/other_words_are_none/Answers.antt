@@ -1,7 +1,7 @@
 use Rattle.std.proofs.Common.{refl}
 use Rattle.clap.proofs.OnLiterals.{clap_on_literals}
-use Rattle.command_line.specs.CommandLine.{faults_at, value_at}
-use Rattle.command_line.proofs.laws.other_words_are_none.Goals as goal
+use Rattle.command_run.specs.CommandLine.{faults_at, value_at}
+use Rattle.command_run.proofs.laws.other_words_are_none.Goals as goal
 
 pub returns : goal.returns
 unfolding clap_on_literals faults_at value_at

@@ -1,7 +1,7 @@
 -- Laws of the command line.
 use Rattle.std.specs.Prelude.{◌≡◌, [], ◌∷◌, None, Some, codes}
-use Rattle.command_line.specs.Orders.{order_of}
-use Rattle.command_line.specs.declared.order.Order.TheVariants.{Replay, Demand, Show, Grow, Node, Police}
+use Rattle.command_run.specs.Orders.{order_of}
+use Rattle.command_run.specs.declared.order.Order.TheVariants.{Replay, Demand, Show, Grow, Node, Police}
 
 -- the words that a user writes are the orders that they name
 pub record EachVerbIsAnOrder : Type 0 where

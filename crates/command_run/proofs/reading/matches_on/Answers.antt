@@ -2,8 +2,8 @@ use Rattle.std.proofs.Common.{◌≡◌, ◌∙◌, List, [], map, refl, ap, sub
 use Rattle.clap.proofs.OnLiterals.{clap_on_literals}
 use Rattle.clap.proofs.WalkLemmas.{first_value-rows}
 use Rattle.clap.specs.Words.{App, HasKind, HasMatchesOf, IsAmong, Text, app_of, fault_of, first_of, found_of, is_simple, is_simple_and_free, kind_of}
-use Rattle.command_line.specs.CommandLine.{faults_at, rsvpd, value_at}
-use Rattle.command_line.proofs.reading.matches_on.Goals as goal
+use Rattle.command_run.specs.CommandLine.{faults_at, rsvpd, value_at}
+use Rattle.command_run.proofs.reading.matches_on.Goals as goal
 
 is_free : is_simple_and_free rsvpd ≡ true
 unfolding clap_on_literals

@@ -5,9 +5,9 @@ use Rattle.std.specs.List.{list_all}
 use Rattle.std.specs.Str.{bytes_eq}
 use Rattle.std.specs.Str.Parse.{digits_value}
 use Rattle.clap.specs.Words.{Text}
-use Rattle.command_line.specs.CommandLine.{faults_at, value_at}
-use Rattle.command_line.specs.declared.order.Order.{Order}
-use Rattle.command_line.specs.declared.order.Order.TheVariants.{Replay, Demand, Show, Grow, Node, Police}
+use Rattle.command_run.specs.CommandLine.{faults_at, value_at}
+use Rattle.command_run.specs.declared.order.Order.{Order}
+use Rattle.command_run.specs.declared.order.Order.TheVariants.{Replay, Demand, Show, Grow, Node, Police}
 
 -- an order that no seed stands with
 abbrev pub unseeded : Order → Option Text → Option Order

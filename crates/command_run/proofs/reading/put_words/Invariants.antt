@@ -1,5 +1,5 @@
 use Rattle.std.proofs.Common.{◌≡◌, ◌++◌, drop, map, string_bytes}
-use Rattle.command_line.proofs.reading.put_words.Given as goal
+use Rattle.command_run.proofs.reading.put_words.Given as goal
 
 -- what is there and what the rest brings is the whole line
 abbrev pub invariant-loop-word : goal.invariant-loop-word

@@ -4,8 +4,8 @@ ghost use Rattle.std.specs.Char.{is_ascii_digit};
 ghost use Rattle.std.specs.List.{list_all};
 ghost use Rattle.std.specs.Str.Parse.{digits_value};
 ghost use Rattle.clap.specs.Words.{app_of, first_value, found_of};
-ghost use Rattle.command_line.specs.CommandLine.{faults_at, rsvpd, value_at};
-ghost use Rattle.command_line.specs.Orders.{below_2_to_64, grown, is_numeral, order_at, order_of, ordered, seed_of, unseeded};
+ghost use Rattle.command_run.specs.CommandLine.{faults_at, rsvpd, value_at};
+ghost use Rattle.command_run.specs.Orders.{below_2_to_64, grown, is_numeral, order_at, order_of, ordered, seed_of, unseeded};
 
 use crate::order::{NoOrder, Order};
 use clap::error::ErrorKind;
