@@ -2,7 +2,7 @@
 //! has settled.
 //!
 //! It is a number of the links, the trees, the senders and the wants alone (`specs/Overhead.antt`), and `overhead` counts it: Paths by
-//! senders and ends, Resvs by sessions, styles and hops. What it bounds is proved in `settle_overhead`. It stands on `network_demand`.
+//! senders and ends, Resvs by sessions, styles and hops. What it bounds is proved in `settle_refreshes`. It stands on `network_demand`.
 #![tactic(auto)]
 
 mod counting;

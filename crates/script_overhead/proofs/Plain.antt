@@ -47,8 +47,8 @@ use Rattle.script_theorem.proofs.Writing.{joined, run_then, same_flight}
 use Rattle.script_words.specs.Lines.{text_lines}
 use Rattle.settle_network.proofs.RunsSettle.{visited_at}
 use Rattle.settle_network.proofs.Settled.{run_all}
-use Rattle.settle_overhead.proofs.Rounds.{rounds_leave_nothing}
-use Rattle.settle_overhead.proofs.Runs.{stays}
+use Rattle.settle_refreshes.proofs.Rounds.{rounds_leave_nothing}
+use Rattle.settle_refreshes.proofs.RoomyRuns.{stays}
 use Rattle.settle_refreshes.specs.Plain.{IsPlain, IsPlainStale, to_plain_refreshes}
 use Rattle.settle_refreshes.specs.Refreshes.{HasOneSender, HasOnlyRefreshes}
 use Rattle.settle_refreshes.proofs.Plain.{a_plain_moment_has_only_refreshes, a_plain_run_ends_in_refreshes}

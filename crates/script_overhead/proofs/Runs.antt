@@ -30,8 +30,8 @@ use Rattle.script_theorem.proofs.WorldDemands.{scripts_stand}
 use Rattle.script_words.specs.Lines.{text_lines}
 use Rattle.settle_network.proofs.RunsSettle.{visited_at}
 use Rattle.settle_network.proofs.Settled.{run_all, run_then}
-use Rattle.settle_overhead.proofs.Rounds.{rounds_leave_nothing}
-use Rattle.settle_overhead.proofs.Runs.{a_settled_run_never_crowds, settled_rounds_are_roomy, stays}
+use Rattle.settle_refreshes.proofs.Rounds.{rounds_leave_nothing}
+use Rattle.settle_refreshes.proofs.RoomyRuns.{a_settled_run_never_crowds, settled_rounds_are_roomy, stays}
 use Rattle.settle_refreshes.specs.Refreshes.{HasOnlyRefreshes}
 use Rattle.script_overhead.specs.Roomy.{ASettledRunHasTheRoomThatIsSaid, EndsSettled, HasRoomFor, SaysRoomFor, end_of}
 use Rattle.script_overhead.proofs.LastLines.{last_number}

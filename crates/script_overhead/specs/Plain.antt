@@ -15,7 +15,7 @@ use Rattle.script_grammar.specs.Draft.{Draft, nothing, plan_of, routing}
 use Rattle.script_grammar.specs.Grammar.{IsScript, Leads}
 use Rattle.script_theorem.specs.RoundsAmong.{AreRoundsAndWriting, rounds_among}
 use Rattle.script_words.specs.Lines.{text_lines}
-use Rattle.settle_overhead.specs.Roomy.{with_rounds}
+use Rattle.settle_refreshes.specs.Roomy.{with_rounds}
 use Rattle.settle_refreshes.specs.Plain.{IsPlainEvent, to_plain_refreshes}
 use Rattle.script_overhead.specs.Roomy.{HasRoomFor, SaysRoomFor, end_of}
 

@@ -16,7 +16,7 @@ use Rattle.script_grammar.specs.Draft.{Draft, nothing, routing}
 use Rattle.script_grammar.specs.Grammar.{IsScript, Leads}
 use Rattle.script_theorem.specs.Standing.{world_behind}
 use Rattle.script_words.specs.Lines.{text_lines}
-use Rattle.settle_overhead.specs.Roomy.{with_rounds}
+use Rattle.settle_refreshes.specs.Roomy.{with_rounds}
 use Rattle.settle_refreshes.specs.Refreshes.{HasOnlyRefreshes}
 
 -- the overhead of the world behind the lines of a script is that which is counted from its lines

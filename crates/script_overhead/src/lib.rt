@@ -3,7 +3,7 @@
 //! their lines alone.
 //!
 //! It puts together that `check` writes that number (`script_fit`), that the network behind the lines of a script has what they ask
-//! (`script_theorem`), and that a settled network is roomy (`settle_overhead`). Definitions stand in `specs/`, and each public function
+//! (`script_theorem`), and that a settled network is roomy (`settle_refreshes`). Definitions stand in `specs/`, and each public function
 //! of `laws` has an empty body and a law as its promise.
 #![tactic(auto)]
 

@@ -13,3 +13,10 @@ pub mod Plain
 pub mod Settled
 pub mod Runs
 pub mod Worked
+pub mod Counting
+pub mod QuietSends
+pub mod NodeCounts
+pub mod QuietSteps
+pub mod Rounds
+pub mod RoomyRuns
+pub mod WorkedRoom

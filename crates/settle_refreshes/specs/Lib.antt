@@ -1,3 +1,5 @@
 pub mod Plain
 pub mod Refreshes
 pub mod Worked
+pub mod Roomy
+pub mod WorkedRoom

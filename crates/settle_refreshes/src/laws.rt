@@ -39,7 +39,7 @@ pub fn rounds_end_in_refreshes()
 {}
 
 /// And at the end of the run of a fit script that lets few senders send and ends in so many calm rounds, where its demands fit and nothing
-/// goes round when these begin: the premise on what is in flight of `settle_overhead::a_settled_run_never_crowds`.
+/// goes round when these begin: the premise on what is in flight of `settle_refreshes::a_settled_run_never_crowds`.
 pub fn a_run_ends_in_refreshes()
     ensures { (p : Plan) → IsFitRun p → AreFitSenders p → (is : EndsInCalm to_refreshes p.quarter (first_world p) (steps_of_run p))
         → DemandsFit (run (machine p.quarter) is.before (first_world p)).net (locals_of (run (machine p.quarter) is.before (first_world p)))

@@ -50,8 +50,8 @@ use Rattle.settle_paths.specs.PreviousHops.{IsPrevious}
 use Rattle.settle_paths.proofs.PreviousHops.{ends_there, same_by_addr}
 use Rattle.settle_paths.proofs.Standing.{from_there, goes_out_told, place_in, some_at}
 use Rattle.network_overhead.specs.Overhead.{asked_lanes, is_wanted, lane_back, lanes_back, lanes_of_sender, leaves_by, node_overhead, path_overhead}
-use Rattle.settle_overhead.proofs.Counting.{length_filter, length_keys, length_ones, length_picked, one_passes, sum_at_most, sum_each, sum_flat, sum_keys}
-use Rattle.settle_overhead.proofs.NodeSends.{IsUnchanged, after, path_iface, path_of, path_refreshes, resv_of, resv_refreshed, resv_refreshes, resv_sent, sends_are}
+use Rattle.settle_refreshes.proofs.Counting.{length_filter, length_keys, length_ones, length_picked, one_passes, sum_at_most, sum_each, sum_flat, sum_keys}
+use Rattle.settle_refreshes.proofs.QuietSends.{IsUnchanged, after, path_iface, path_of, path_refreshes, resv_of, resv_refreshed, resv_refreshes, resv_sent, sends_are}
 
 -- ---- what is sent out of an end goes to each other end of its link at most
 abbrev width : Net → Option ℕ → ℕ

@@ -13,7 +13,7 @@ ghost use Rattle.network_model.specs.Steps.{Step, machine};
 ghost use Rattle.network_model.specs.Worlds.{World};
 ghost use Rattle.laws_network.specs.Runs.{AreFitSenders, IsFitRun};
 ghost use Rattle.network_overhead.specs.Overhead.{overhead};
-ghost use Rattle.settle_overhead.specs.Roomy.{with_rounds};
+ghost use Rattle.settle_refreshes.specs.Roomy.{with_rounds};
 ghost use Rattle.settle_refreshes.specs.Refreshes.{HasOnlyRefreshes};
 
 /// In a network that has settled, rounds of a script put no more in flight than the network's refresh overhead beside what was there: from

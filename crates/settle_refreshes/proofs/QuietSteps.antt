@@ -68,8 +68,8 @@ use Rattle.network_overhead.specs.Overhead.{node_overhead, overhead}
 use Rattle.settle_refreshes.specs.Refreshes.{HasOnlyRefreshes, IsRefresh}
 use Rattle.settle_refreshes.proofs.Resting.{IsAtRest, ready, some_session}
 use Rattle.settle_refreshes.proofs.Resting as resting
-use Rattle.settle_overhead.proofs.NodeSends.{IsUnchanged, after, nothing_sent, sends_refreshes}
-use Rattle.settle_overhead.proofs.NodeCounts.{few_sent}
+use Rattle.settle_refreshes.proofs.QuietSends.{IsUnchanged, after, nothing_sent, sends_refreshes}
+use Rattle.settle_refreshes.proofs.NodeCounts.{few_sent}
 
 -- ---- a world at rest, in which what each path is told is exact
 pub record IsToldAtRest (q : ℕ) (w u : World) : Type 0 where

@@ -1,5 +1,5 @@
 //! Worked rows: small networks, by computing.
-ghost use Rattle.settle_overhead.specs.Worked.{APairIsRoomy, ARefusalComesBack, ConfirmationsMultiply, OverheadsAreSo, WhatIsLeftOverIsRefreshed};
+ghost use Rattle.settle_refreshes.specs.WorkedRoom.{APairIsRoomy, ARefusalComesBack, ConfirmationsMultiply, OverheadsAreSo, WhatIsLeftOverIsRefreshed};
 
 /// On a link of four ends, with a sender at one and a receiver at each of two others, the refresh overhead is five datagrams: three
 /// copies of the Path and two Resvs. Without the receivers it is three.

@@ -27,7 +27,7 @@ use Rattle.settle_network.proofs.Settled.{run_then}
 use Rattle.network_overhead.specs.Overhead.{overhead}
 use Rattle.settle_refreshes.specs.Refreshes.{HasOnlyRefreshes}
 use Rattle.settle_refreshes.proofs.Resting.{IsAtRest, at_rest}
-use Rattle.settle_overhead.proofs.Resting.{IsToldAtRest, delivery_sends_nothing, few_refreshes, refreshes_sent}
+use Rattle.settle_refreshes.proofs.QuietSteps.{IsToldAtRest, delivery_sends_nothing, few_refreshes, refreshes_sent}
 
 -- ---- worlds that stretches of steps visit
 visited_split : (q : ℕ) (Q : World → Type 0) (ss ts : List Step) (u : World) → Visited (machine q) Q (ss ++ ts) u → Visited (machine q) Q ss u × Visited (machine q) Q ts (run (machine q) ss u)

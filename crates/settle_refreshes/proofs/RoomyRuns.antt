@@ -20,8 +20,8 @@ use Rattle.settle_network.proofs.RunsSettle.{visited_at}
 use Rattle.settle_network.proofs.Settled.{run_all, run_then}
 use Rattle.network_overhead.specs.Overhead.{overhead}
 use Rattle.settle_refreshes.specs.Refreshes.{HasOnlyRefreshes}
-use Rattle.settle_overhead.specs.Roomy.{with_rounds}
-use Rattle.settle_overhead.proofs.Rounds.{never_crowded, rounds_are_roomy}
+use Rattle.settle_refreshes.specs.Roomy.{with_rounds}
+use Rattle.settle_refreshes.proofs.Rounds.{never_crowded, rounds_are_roomy}
 
 pub append_none : {A : Type 0} (xs : List A) → xs ++ [] ≡ xs
 append_none [] = refl

@@ -1,5 +1,0 @@
-use Rattle.settle_overhead.proofs.Rounds.{rounds_are_roomy}
-use Rattle.settle_overhead.proofs.laws.settled_rounds_are_roomy.Goals as goal
-
-pub returns : goal.returns
-returns c q n w rs calm start enough only = rounds_are_roomy q n w rs calm start enough only

@@ -1,5 +1,0 @@
-use Rattle.settle_overhead.proofs.Rounds.{rounds_leave_nothing}
-use Rattle.settle_overhead.proofs.laws.settled_rounds_leave_nothing_in_flight.Goals as goal
-
-pub returns : goal.returns
-returns c q n w rs calm start enough only = rounds_leave_nothing q n w rs calm start enough only

@@ -1,5 +1,0 @@
-use Rattle.settle_overhead.proofs.Worked.{what_is_left_over_is_refreshed}
-use Rattle.settle_overhead.proofs.rows.what_is_left_over_is_refreshed.Goals as goal
-
-pub returns : goal.returns
-returns c = what_is_left_over_is_refreshed

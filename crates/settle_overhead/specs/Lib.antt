@@ -1,2 +1,0 @@
-pub mod Roomy
-pub mod Worked
