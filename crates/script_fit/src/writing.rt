@@ -18,8 +18,8 @@ ghost use Rattle.script_fit.specs.Findings.{IsFinding, IsFindingOf, IsSaidOf, Is
 use crate::script_lines::read_lines;
 use crate::whole_text::{Saying, findings_text};
 use byte_streams::{ReadErr, Sink, Source, read_all, write_all};
-use fit_findings::Begun;
 use line_advice::make_room;
+use network_findings::Begun;
 use rsvp_base::{EndName, NoMemory};
 use script_demand::Asks;
 use script_run::Ending;

@@ -1,5 +1,0 @@
-pub mod Misfits
-pub mod Askers
-pub mod Strays
-pub mod Late
-pub mod Findings

@@ -1,0 +1,11 @@
+pub mod CountSums
+pub mod Bounds
+pub mod Senders
+pub mod Lanes
+pub mod Counted
+pub mod Ranges
+pub mod Ends
+pub mod Alone
+pub mod Fit
+pub mod Clashes
+pub mod Bits

@@ -1,2 +1,0 @@
-pub mod Overhead
-pub mod Counts
