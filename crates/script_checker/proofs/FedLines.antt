@@ -18,7 +18,7 @@ use Rattle.script_run.specs.Checking.{Feeds, IsLineTaken}
 use Rattle.script_grammar.specs.GivenEvents.{IsGiven}
 use Rattle.script_grammar.specs.declared.stop.Stop.{Stop}
 use Rattle.script_grammar.specs.declared.stop.Stop.TheVariants.{Bad, Crowded, NoMemory}
-use Rattle.script_state.specs.Refusals.{IsUntouched, Refuses}
+use Rattle.script_rules.specs.Refusals.{IsUntouched, Refuses}
 
 pub fed : (d : Draft) (text : List ℕ) (said : ScriptLine) → length text ≤ most_line → script_line_of text ≡ Some said → (r : Result (Option Event) Stop) (new : Draft)
     → OnOk r (KeepsAll (Keeps d said) × Adds d said new)

@@ -4,7 +4,7 @@ ghost use Rattle.script_grammar.specs.Draft.{nothing};
 ghost use Rattle.script_checker.specs.Checked.{draft_of};
 
 use rsvp_base::NoMemory;
-use script_state::ScriptState;
+use script_rules::ScriptState;
 use std::alloc::Global;
 
 /// The lines so far.

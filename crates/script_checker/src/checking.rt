@@ -7,7 +7,7 @@ ghost use Rattle.script_grammar.specs.LineKinds.{script_line_of};
 ghost use Rattle.script_grammar.specs.Values.{hop_value};
 ghost use Rattle.script_grammar.specs.declared.line.ScriptLine.TheVariants as said;
 ghost use Rattle.script_run.specs.Checking.{Feeds};
-ghost use Rattle.script_state.specs.Said.{draft_of};
+ghost use Rattle.script_rules.specs.Said.{draft_of};
 ghost use Rattle.script_advice.specs.Breaks.{IsLinked};
 
 use crate::checker::Checker;
@@ -17,8 +17,8 @@ use network_model::Event;
 use rsvp_base::{Addr, NoMemory, Session, StyleKind};
 use script_advice::LinesBefore;
 use script_grammar::{Fault, HopEnds, Stop, read_line};
+use script_rules::ScriptState;
 use script_run::{Checks, Start};
-use script_state::ScriptState;
 use script_words::Unread;
 use stale_state::LeftOver;
 use tree_routing::{HopFault, LinkHop};
@@ -48,7 +48,7 @@ impl LinesBefore for Checker {
     }
 
     fn has_room_for_session(&self, session: Session) -> bool {
-        script_state::has_room_for_session(&self.state, session)
+        script_rules::has_room_for_session(&self.state, session)
     }
 
     fn standing_style(&self, node: &[u8], session: Session) -> Result<Option<StyleKind>, NoMemory> {

@@ -1,7 +1,7 @@
 //! The checker of scripts: what the lines of one have said so far, and the first fault of the first bad line.
 //!
-//! Each line is exactly what the grammar of `script_grammar` says of it behind the lines before. The state is that of
-//! `script_state`, the rules are those of `script_rules`.
+//! Each line is exactly what the grammar of `script_grammar` says of it behind the lines before. The state
+//! and the rules are those of `script_rules`.
 #![tactic(auto)]
 
 mod asking;

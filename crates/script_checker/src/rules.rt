@@ -3,14 +3,14 @@ ghost use Rattle.std.specs.Prelude.{◌≡◌, Err, IfErr, IfOk, OnOk};
 ghost use Rattle.script_grammar.specs.Adds.{Adds};
 ghost use Rattle.script_grammar.specs.Asking.{AsksMemory};
 ghost use Rattle.script_grammar.specs.Rules.{KeepsAll, Keeps};
-ghost use Rattle.script_state.specs.Said.{draft_of};
+ghost use Rattle.script_rules.specs.Said.{draft_of};
 ghost use Rattle.script_checker.specs.Forms.{Formed};
-ghost use Rattle.script_state.specs.Refusals.{IsUntouched, Refuses};
+ghost use Rattle.script_rules.specs.Refusals.{IsUntouched, Refuses};
 ghost use Rattle.script_grammar.specs.GivenEvents.{IsGiven};
 
 use network_model::Event;
 use script_grammar::{ScriptLine, Stop};
-use script_state::ScriptState;
+use script_rules::ScriptState;
 
 /// Adds what a line says, and gives its event if it is one of part 3. `Bad`: the line breaks a rule, this is the fault of the
 /// first that it breaks, and the lines so far stay as they were. `NoMemory`, only where the line asks for memory: it ran out.

@@ -1,10 +1,10 @@
 //! What the lines before all events declare, for a network that begins.
 ghost use Rattle.std.specs.Prelude.{◌≡◌, ◌/◌, ◌≤◌, IfOk};
 ghost use Rattle.script_grammar.specs.Draft.{period_of};
-ghost use Rattle.script_state.specs.Said.{draft_of};
+ghost use Rattle.script_rules.specs.Said.{draft_of};
 
 use rsvp_base::{EndName, NoMemory};
-use script_state::ScriptState;
+use script_rules::ScriptState;
 use std::alloc::Global;
 
 /// A quarter of the period, in milliseconds.

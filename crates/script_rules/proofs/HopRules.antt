@@ -15,7 +15,7 @@ use Rattle.script_grammar.specs.declared.line.ScriptLine.TheVariants as line
 use Rattle.script_grammar.specs.declared.stop.Stop.{Stop}
 use Rattle.script_grammar.specs.declared.stop.Stop.TheVariants.{Bad, Crowded, NoMemory}
 use Rattle.script_rules.specs.HopRefusals.{IsHopRefused, IsLoopNamed}
-use Rattle.script_state.specs.Refusals.{Refuses}
+use Rattle.script_rules.specs.Refusals.{Refuses}
 
 -- a closed chain, told by the names of the ends of its least hop
 pub loop_named : (d : Draft) (r : TreeHop) (group : Addr) (from to : ℕ) → HopAnswer d.net r (Err (hop_err.Loop group from to)) → (x : Fault) → IsLoopNamed d group (record { from = from; to = to }) x

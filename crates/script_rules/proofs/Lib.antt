@@ -1,3 +1,14 @@
+pub mod Walks
+pub mod Positions
+pub mod Members
+pub mod Named
+pub mod Forced
+pub mod Counts
+pub mod Places
+pub mod Sifting
+pub mod Slots
+pub mod ListedSlots
+pub use Rattle.stale_state.proofs.Listing
 pub mod Apart
 pub mod LinkRules
 pub mod HopRules

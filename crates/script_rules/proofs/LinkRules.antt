@@ -16,7 +16,7 @@ use Rattle.tree_routing.specs.Answers.{TakesLink}
 use Rattle.script_grammar.specs.Adds.{link_value}
 use Rattle.script_grammar.specs.Draft.{Draft, end_named, end_number, place_of}
 use Rattle.script_grammar.specs.Rules.{AreOfDifferentNodes, IsEnd}
-use Rattle.script_state.proofs.Members.{all_in_of, in_all_of}
+use Rattle.script_rules.proofs.Members.{all_in_of, in_all_of}
 use Rattle.script_rules.specs.LinkEnds.{are_apart, is_at, is_known, meet, node_at, node_in}
 
 -- ---- lists

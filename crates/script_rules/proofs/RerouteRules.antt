@@ -24,7 +24,7 @@ use Rattle.script_grammar.specs.declared.line.RerouteLine.{RerouteLine}
 use Rattle.network_model.specs.Moves.{CanMove}
 use Rattle.script_grammar.specs.declared.stop.Stop.{Stop}
 use Rattle.script_grammar.specs.declared.stop.Stop.TheVariants.{Bad, Crowded, NoMemory}
-use Rattle.script_state.specs.Refusals.{Refuses}
+use Rattle.script_rules.specs.Refusals.{Refuses}
 use Rattle.script_rules.specs.Asking.{CanBeLookedUp, IsDeclared}
 use Rattle.script_rules.specs.HopRefusals.{IsLoopNamed}
 use Rattle.script_rules.specs.TreeRefusals.{HasRoomForTree, IsTreeRefused, moved_to}

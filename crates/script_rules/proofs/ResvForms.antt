@@ -22,7 +22,7 @@ use Rattle.tree_model.proofs.Following.{same_number}
 use Rattle.script_grammar.specs.Rules.{IsListOfStyle, sender_list}
 use Rattle.script_grammar.specs.Values.{senders_value}
 use Rattle.script_rules.specs.StaleForms.{IsResvForm}
-use Rattle.script_state.proofs.Named.{some_named}
+use Rattle.script_rules.proofs.Named.{some_named}
 
 named : (n : ℕ) → 0 < n → not (n == 0) ≡ true
 named n some = either (n == 0) (λ t. let zero : n ≡ 0 = same_number n 0 t in absurd (omega (arith, some, zero))) (λ f. ap not f)

@@ -19,7 +19,7 @@ use Rattle.script_grammar.specs.declared.fault.Fault.TheVariants as fault
 use Rattle.script_grammar.specs.declared.line.ScriptLine.TheVariants as line
 use Rattle.script_grammar.specs.declared.line.StaleResvLine.{StaleResvLine}
 use Rattle.script_rules.specs.LeftRefusals.{IsLeft, IsNotLeft}
-use Rattle.script_state.specs.Refusals.{Refuses}
+use Rattle.script_rules.specs.Refusals.{Refuses}
 use Rattle.script_grammar.specs.declared.stop.Stop.{Stop}
 use Rattle.script_grammar.specs.declared.stop.Stop.TheVariants.{Bad, Crowded, NoMemory}
 

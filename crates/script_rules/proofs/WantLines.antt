@@ -15,7 +15,7 @@ use Rattle.network_model.specs.Events.{AtNode}
 use Rattle.script_words.specs.Flows.{flow_value}
 use Rattle.script_words.specs.Sessions.{sender_value, session_value}
 use Rattle.script_words.specs.declared.raw.SenderWord.{SenderWord}
-use Rattle.script_state.proofs.Named.{some_named}
+use Rattle.script_rules.proofs.Named.{some_named}
 use Rattle.script_rules.specs.WantForms.{IsWantForm}
 use Rattle.script_grammar.specs.Adds.{Adds, wanted, wants_at, with_wants}
 use Rattle.script_grammar.specs.Draft.{Draft, node_number, with_session}

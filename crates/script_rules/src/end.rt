@@ -3,8 +3,8 @@ ghost use Rattle.std.specs.Prelude.{◌≡◌, ◌==◌, ◌↔◌, ◌++◌, �
 ghost use Rattle.std.specs.List.{list_any};
 ghost use Rattle.script_words.specs.Addresses.{addr_value};
 ghost use Rattle.tree_routing.specs.Answers.{TakesEnd, with_end};
-ghost use Rattle.script_state.specs.Said.{draft_of};
-ghost use Rattle.script_state.specs.Refusals.{IsUntouched, OnlyNoMemory, Refuses};
+ghost use Rattle.script_rules.specs.Said.{draft_of};
+ghost use Rattle.script_rules.specs.Refusals.{IsUntouched, OnlyNoMemory, Refuses};
 ghost use Rattle.script_rules.specs.Asking.{AsksMemory};
 ghost use Rattle.script_grammar.specs.Adds.{Adds};
 ghost use Rattle.script_grammar.specs.Draft.{place_of};
@@ -12,9 +12,10 @@ ghost use Rattle.script_grammar.specs.Rules.{Keeps, KeepsAll, OnlyDeclares};
 ghost use Rattle.script_grammar.specs.Values.{IsEndInRange};
 ghost use Rattle.script_grammar.specs.declared.line.ScriptLine.TheVariants as kind;
 
+use crate::parts::only_declares;
+use crate::state::ScriptState;
 use rsvp_base::{EndName, Iface};
 use script_grammar::{EndLine, Fault, LatencyLine, Stop};
-use script_state::{ScriptState, only_declares};
 use script_words::is_host;
 use tree_routing::End;
 

@@ -1,7 +1,7 @@
 //! The rules of lines of part 3 that ask nothing of a host.
 ghost use Rattle.std.specs.Prelude.{◌≡◌, ◌≢◌, ◌↔◌, ◌≤◌, Err, IfErr, IfOk, IfSome, IsSome, OnOk, length};
-ghost use Rattle.script_state.specs.Said.{draft_of};
-ghost use Rattle.script_state.specs.Refusals.{IsUntouched, Refuses};
+ghost use Rattle.script_rules.specs.Said.{draft_of};
+ghost use Rattle.script_rules.specs.Refusals.{IsUntouched, Refuses};
 ghost use Rattle.script_rules.specs.Asking.{AsksMemory};
 ghost use Rattle.script_grammar.specs.GivenEvents.{IsAdded};
 ghost use Rattle.script_grammar.specs.Adds.{Adds};
@@ -9,12 +9,11 @@ ghost use Rattle.script_grammar.specs.Rules.{Keeps, KeepsAll};
 ghost use Rattle.script_grammar.specs.Values.{IsFrom1To};
 ghost use Rattle.script_grammar.specs.declared.line.ScriptLine.TheVariants as kind;
 
+use crate::keeping::{has_room_for_adverts, has_room_for_report, keep, keep_adverts, keep_report};
+use crate::state::ScriptState;
 use network_model::Event;
 use rsvp_base::EndName;
 use script_grammar::{Fault, InjectLine, Stop};
-use script_state::{
-    ScriptState, has_room_for_adverts, has_room_for_report, keep, keep_adverts, keep_report,
-};
 
 const MOST_WAIT: u32 = 3_600_000;
 

@@ -3,18 +3,19 @@ ghost use Rattle.std.specs.Prelude.{◌≡◌, ◌<◌, ◌↔◌, Err, IfErr, I
 ghost use Rattle.script_words.specs.Addresses.{IsAddr, IsGroup, addr_value};
 ghost use Rattle.tree_model.specs.Ranks.{IsLoopFreeIn};
 ghost use Rattle.tree_routing.specs.Answers.{Fits, with_hop};
-ghost use Rattle.script_state.specs.Said.{draft_of};
+ghost use Rattle.script_rules.specs.Said.{draft_of};
 ghost use Rattle.script_rules.specs.HopRefusals.{IsHopRefused, IsLoopNamed};
-ghost use Rattle.script_state.specs.Refusals.{IsUntouched, Refuses};
+ghost use Rattle.script_rules.specs.Refusals.{IsUntouched, Refuses};
 ghost use Rattle.script_rules.specs.Asking.{AsksMemory};
 ghost use Rattle.script_grammar.specs.Adds.{Adds, with_tree_hop};
 ghost use Rattle.script_grammar.specs.Rules.{IsEnd, Keeps, KeepsAll, OnlyDeclares};
 ghost use Rattle.script_grammar.specs.Values.{hop_value};
 ghost use Rattle.script_grammar.specs.declared.line.ScriptLine.TheVariants as kind;
 
+use crate::parts::only_declares;
+use crate::state::ScriptState;
 use rsvp_base::Addr;
 use script_grammar::{Fault, HopEnds, HopLine, Stop};
-use script_state::{ScriptState, only_declares};
 use script_words::{DottedQuad, is_group};
 use tree_routing::{HopErr, LinkHop, TreeHop};
 

@@ -3,19 +3,20 @@ ghost use Rattle.std.specs.Prelude.{◌≡◌, ◌≤◌, ◌↔◌, ◌+◌, �
 ghost use Rattle.std.specs.List.{list_all, list_any};
 ghost use Rattle.rsvp_base.specs.Members.{In};
 ghost use Rattle.tree_model.specs.Networks.{link_of};
-ghost use Rattle.script_state.specs.Said.{draft_of};
+ghost use Rattle.script_rules.specs.Said.{draft_of};
 ghost use Rattle.script_rules.specs.LinkEnds.{are_apart, is_at, is_known, node_at};
-ghost use Rattle.script_state.specs.Refusals.{IsUntouched, Refuses};
+ghost use Rattle.script_rules.specs.Refusals.{IsUntouched, Refuses};
 ghost use Rattle.script_rules.specs.Asking.{AsksMemory};
 ghost use Rattle.script_grammar.specs.Adds.{Adds, link_value};
 ghost use Rattle.script_grammar.specs.Draft.{end_named, end_number};
 ghost use Rattle.script_grammar.specs.Rules.{Keeps, KeepsAll};
 ghost use Rattle.script_grammar.specs.declared.line.ScriptLine.TheVariants as kind;
 
+use crate::parts::only_declares;
+use crate::state::ScriptState;
 use arrayvec::ArrayVec;
 use rsvp_base::EndName;
 use script_grammar::{Fault, LinkEnds, Stop};
-use script_state::{ScriptState, only_declares};
 use tree_routing::Topology;
 
 /// Adds a link.

@@ -2,11 +2,11 @@
 ghost use Rattle.std.specs.Prelude.{◌≡◌, ◌↔◌, IsTrue, IfErr, IfOk, map};
 ghost use Rattle.std.specs.List.{All};
 ghost use Rattle.script_words.specs.Sessions.{IsSender, sender_value};
-ghost use Rattle.script_state.specs.Refusals.{OnlyNoMemory};
+ghost use Rattle.script_rules.specs.Refusals.{OnlyNoMemory};
 
+use crate::sender_lists::sender_values;
 use rsvp_base::Sender;
 use script_grammar::Stop;
-use script_state::sender_values;
 use script_words::SenderWord;
 use std::alloc::Global;
 

@@ -5,12 +5,13 @@ ghost use Rattle.std.specs.Ordering.{eq_by_cmp};
 ghost use Rattle.rsvp_base.specs.Orders.{styles as by_style, units as by_unit};
 ghost use Rattle.rsvp_messages.specs.Units.{only};
 ghost use Rattle.tree_model.specs.declared.locals.LocalWant.{LocalWant as WantOf};
-ghost use Rattle.script_state.specs.Refusals.{OnlyNoMemory};
+ghost use Rattle.script_rules.specs.Refusals.{OnlyNoMemory};
 ghost use Rattle.script_grammar.specs.Adds.{is_in_place_of, is_want_at, wanted, wants_at, with_want, with_wants};
 
+use crate::session::is_session;
+use crate::state::ScriptState;
 use rsvp_base::{Flow, Part, Sender, Senders, Session, StyleKind, Unit};
 use script_grammar::Stop;
-use script_state::{ScriptState, is_session};
 use std::cmp::Ordering;
 use tree_model::LocalWant;
 

@@ -1,13 +1,14 @@
 //! The rules of `period` and `seed`. They take no memory, so that `NoMemory` is never their answer.
 ghost use Rattle.std.specs.Prelude.{◌≡◌, ◌≢◌, Err, IfErr, OnOk};
-ghost use Rattle.script_state.specs.Said.{draft_of};
-ghost use Rattle.script_state.specs.Refusals.{IsUntouched, Refuses};
+ghost use Rattle.script_rules.specs.Said.{draft_of};
+ghost use Rattle.script_rules.specs.Refusals.{IsUntouched, Refuses};
 ghost use Rattle.script_grammar.specs.Adds.{Adds};
 ghost use Rattle.script_grammar.specs.Rules.{Keeps, KeepsAll};
 ghost use Rattle.script_grammar.specs.declared.line.ScriptLine.TheVariants as kind;
 
+use crate::parts::only_declares;
+use crate::state::ScriptState;
 use script_grammar::{Fault, Stop};
-use script_state::{ScriptState, only_declares};
 
 /// Sets the period, in milliseconds.
 pub fn add_period(state: &mut ScriptState, ms: u128) -> Result<(), Stop>

@@ -4,9 +4,9 @@ ghost use Rattle.std.specs.List.{All, list_any};
 ghost use Rattle.tree_model.specs.Trees.{of_tree};
 ghost use Rattle.network_model.specs.Events.{Reroutes};
 ghost use Rattle.network_model.specs.Moves.{CanMove};
-ghost use Rattle.script_state.specs.Said.{draft_of};
-ghost use Rattle.script_state.specs.Events.{event_of};
-ghost use Rattle.script_state.specs.Refusals.{IsUntouched, Refuses};
+ghost use Rattle.script_rules.specs.Said.{draft_of};
+ghost use Rattle.script_rules.specs.Events.{event_of};
+ghost use Rattle.script_rules.specs.Refusals.{IsUntouched, Refuses};
 ghost use Rattle.script_rules.specs.Asking.{AsksMemory, IsDeclared};
 ghost use Rattle.script_grammar.specs.GivenEvents.{IsAdded};
 ghost use Rattle.script_rules.specs.TreeRefusals.{IsTreeRefused, moved_to};
@@ -17,11 +17,12 @@ ghost use Rattle.script_grammar.specs.Values.{hop_value};
 ghost use Rattle.script_grammar.specs.declared.line.ScriptLine.TheVariants as kind;
 
 use crate::hop::{closed, hop_of, tree_of};
+use crate::keeping::keep;
 use crate::link::number;
+use crate::state::ScriptState;
 use network_model::Event;
 use rsvp_base::{Addr, NoMemory};
 use script_grammar::{Fault, HopEnds, RerouteLine, Stop};
-use script_state::{ScriptState, keep};
 use tree_routing::{HopErr, LinkHop, Routing};
 
 /// Puts a tree in the place of the one in force. Memory is taken only behind the tests of its range, its ends and its source.

@@ -7,9 +7,9 @@ ghost use Rattle.script_words.specs.Addresses.{addr_value};
 ghost use Rattle.script_words.specs.Flows.{flow_value};
 ghost use Rattle.script_words.specs.Sessions.{session_value};
 ghost use Rattle.tree_model.specs.Networks.{node_of};
-ghost use Rattle.script_state.specs.Said.{draft_of};
+ghost use Rattle.script_rules.specs.Said.{draft_of};
 ghost use Rattle.script_rules.specs.StaleForms.{IsResvForm};
-ghost use Rattle.script_state.specs.Refusals.{IsUntouched, Refuses};
+ghost use Rattle.script_rules.specs.Refusals.{IsUntouched, Refuses};
 ghost use Rattle.script_rules.specs.Asking.{AsksMemory};
 ghost use Rattle.script_grammar.specs.Adds.{Adds};
 ghost use Rattle.script_grammar.specs.Draft.{end_number, period_of};
@@ -18,11 +18,13 @@ ghost use Rattle.script_grammar.specs.Values.{IsStaleResvInRange};
 ghost use Rattle.script_grammar.specs.declared.line.ScriptLine.TheVariants as kind;
 
 use crate::listed::{are_in_range, senders_of};
+use crate::parts::is_before_events;
+use crate::sender_lists::are_distinct;
 use crate::stale::{leave, left_of, state_life};
+use crate::state::ScriptState;
 use resv_state::ResvFact;
 use rsvp_base::{Addr, Flow, Part, Sender, Senders, Session, StyleKind, Unit};
 use script_grammar::{Fault, StaleResvLine, Stop};
-use script_state::{ScriptState, are_distinct, is_before_events};
 use stale_state::Left;
 
 /// Adds a reservation that is left over. Memory is taken only behind the tests of its range and its end.

@@ -7,9 +7,9 @@ ghost use Rattle.script_words.specs.Flows.{flow_value};
 ghost use Rattle.script_words.specs.Sessions.{sender_value, session_value};
 ghost use Rattle.tree_model.specs.Networks.{owner};
 ghost use Rattle.tree_model.specs.Wants.{live, of_session};
-ghost use Rattle.script_state.specs.Said.{draft_of};
-ghost use Rattle.script_state.specs.Events.{event_of};
-ghost use Rattle.script_state.specs.Refusals.{IsUntouched, OnlyNoMemory, Refuses};
+ghost use Rattle.script_rules.specs.Said.{draft_of};
+ghost use Rattle.script_rules.specs.Events.{event_of};
+ghost use Rattle.script_rules.specs.Refusals.{IsUntouched, OnlyNoMemory, Refuses};
 ghost use Rattle.script_rules.specs.Asking.{AsksMemory};
 ghost use Rattle.script_grammar.specs.GivenEvents.{IsAdded};
 ghost use Rattle.script_grammar.specs.Adds.{Adds, is_sender, sends, with_sender, without_sender};
@@ -18,10 +18,11 @@ ghost use Rattle.script_grammar.specs.Rules.{HasRoomForSession, IsNode, Keeps, K
 ghost use Rattle.script_grammar.specs.Values.{IsDropInRange, IsSendInRange};
 ghost use Rattle.script_grammar.specs.declared.line.ScriptLine.TheVariants as kind;
 
+use crate::session::{has_room_for_session, is_session, keep_call};
+use crate::state::ScriptState;
 use network_model::{Event, LocalCall};
 use rsvp_base::{Addr, EndName, Flow, Sender, Session};
 use script_grammar::{Fault, SendLine, SenderLine, Stop};
-use script_state::{ScriptState, has_room_for_session, is_session, keep_call};
 use tree_model::LocalSender;
 
 const MOST_SENDERS: usize = 16;

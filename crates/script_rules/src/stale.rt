@@ -4,10 +4,10 @@ ghost use Rattle.stale_state.specs.Kept.{stale_of};
 ghost use Rattle.script_words.specs.Addresses.{addr_value};
 ghost use Rattle.script_words.specs.Flows.{flow_value};
 ghost use Rattle.script_words.specs.Sessions.{sender_value, session_value};
-ghost use Rattle.script_state.specs.Said.{draft_of};
-ghost use Rattle.script_state.specs.Fitness.{IsFitAt};
+ghost use Rattle.script_rules.specs.Said.{draft_of};
+ghost use Rattle.script_rules.specs.Fitness.{IsFitAt};
 ghost use Rattle.script_rules.specs.LeftRefusals.{IsLeft, IsNotLeft};
-ghost use Rattle.script_state.specs.Refusals.{IsUntouched, Refuses};
+ghost use Rattle.script_rules.specs.Refusals.{IsUntouched, Refuses};
 ghost use Rattle.script_rules.specs.Asking.{AsksMemory};
 ghost use Rattle.script_grammar.specs.Adds.{Adds, with_stale};
 ghost use Rattle.script_grammar.specs.Draft.{end_number, lifetime_of_period, node_number, period_of, wall_lifetime_of_period};
@@ -15,10 +15,12 @@ ghost use Rattle.script_grammar.specs.Rules.{HasRoomForSession, IsEndOf, Keeps, 
 ghost use Rattle.script_grammar.specs.Values.{IsFrom1To, IsStaleHopWallInRange, IsStalePathInRange, IsStaleSenderWallInRange, IsSub};
 ghost use Rattle.script_grammar.specs.declared.line.ScriptLine.TheVariants as kind;
 
+use crate::parts::is_before_events;
+use crate::session::{has_room_for_session, name_session};
+use crate::state::ScriptState;
 use path_state::PathFact;
 use rsvp_base::{Addr, EndName, Flow, Hop, Sender, Session};
 use script_grammar::{Fault, StaleHopWallLine, StalePathLine, StaleSenderWallLine, Stop};
-use script_state::{ScriptState, has_room_for_session, is_before_events, name_session};
 use stale_state::{Left, LeftErr};
 use style_rules::{Target, Wall};
 

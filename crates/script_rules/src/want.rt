@@ -6,9 +6,9 @@ ghost use Rattle.network_model.specs.Events.{AtNode};
 ghost use Rattle.router_rules.specs.Inputs.{QuitAll};
 ghost use Rattle.script_words.specs.Flows.{flow_value};
 ghost use Rattle.script_words.specs.Sessions.{IsSender, IsSession, sender_value, session_value};
-ghost use Rattle.script_state.specs.Said.{draft_of};
-ghost use Rattle.script_state.specs.Events.{event_of};
-ghost use Rattle.script_state.specs.Refusals.{IsUntouched, OnlyNoMemory, Refuses};
+ghost use Rattle.script_rules.specs.Said.{draft_of};
+ghost use Rattle.script_rules.specs.Events.{event_of};
+ghost use Rattle.script_rules.specs.Refusals.{IsUntouched, OnlyNoMemory, Refuses};
 ghost use Rattle.script_rules.specs.Asking.{AsksMemory};
 ghost use Rattle.script_rules.specs.WantForms.{IsWantForm};
 ghost use Rattle.script_grammar.specs.GivenEvents.{IsAdded};
@@ -20,10 +20,13 @@ ghost use Rattle.script_grammar.specs.declared.line.ScriptLine.TheVariants as ki
 
 use crate::listed::{are_in_range, senders_of};
 use crate::own::{count_with, only};
+use crate::sender_lists::are_distinct;
+use crate::session::{has_room_for_session, keep_call};
+use crate::state::ScriptState;
+use crate::want_table::WantTable;
 use network_model::{Event, LocalCall};
 use rsvp_base::{Flow, Part, Sender, Senders, Session, StyleKind};
 use script_grammar::{Fault, QuitLine, Stop, WantLine};
-use script_state::{ScriptState, WantTable, are_distinct, has_room_for_session, keep_call};
 use tree_model::LocalWant;
 
 const MOST_UNITS: usize = 16;

@@ -3,7 +3,7 @@ use Rattle.script_words.specs.Unread.{Misses}
 use Rattle.script_words.specs.declared.unread.Unread.{Unread}
 use Rattle.script_grammar.specs.Grammar.{unread}
 use Rattle.script_grammar.specs.LineKinds.{script_line_of}
-use Rattle.script_state.specs.Said.{draft_of}
+use Rattle.script_rules.specs.Said.{draft_of}
 use Rattle.script_checker.proofs.FedLines.{fed}
 use Rattle.script_checker.proofs.Words.{formed}
 use Rattle.script_checker.proofs.checking.take.Goals as goal

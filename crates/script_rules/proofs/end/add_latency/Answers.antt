@@ -1,9 +1,9 @@
 use Rattle.std.specs.Prelude.{◌/◌, unwrap_or}
-use Rattle.script_state.specs.Forcing.{IsOfNet}
-use Rattle.script_state.specs.Listed.{facts_in}
-use Rattle.script_state.proofs.Forced.{nothing_forced}
-use Rattle.script_state.proofs.Listing.{books_of_none, list_none}
-use Rattle.script_state.proofs.Places.{none_fit, placed_latency, there_latency}
+use Rattle.script_rules.specs.Forcing.{IsOfNet}
+use Rattle.script_rules.specs.Listed.{facts_in}
+use Rattle.script_rules.proofs.Forced.{nothing_forced}
+use Rattle.script_rules.proofs.Listing.{books_of_none, list_none}
+use Rattle.script_rules.proofs.Places.{none_fit, placed_latency, there_latency}
 use Rattle.script_rules.proofs.end.add_latency.Goals as goal
 
 pub invariant_of-state-2-clause-placed : goal.invariant_of-state-2-clause-placed

@@ -1,7 +1,7 @@
 use Rattle.std.proofs.Common.{◌≡◌, IfErr, IsSome, ℕ, Option, refl, subst, ap, ◌∙◌}
 use Rattle.tree_model.specs.declared.hops.TreeHop.{TreeHop}
 use Rattle.tree_model.specs.Networks.{owner}
-use Rattle.script_state.specs.Said.{draft_of}
+use Rattle.script_rules.specs.Said.{draft_of}
 use Rattle.tree_routing.specs.Answers.{Fits}
 use Rattle.script_words.specs.Addresses.{addr_value}
 use Rattle.script_grammar.specs.Rules.{IsHopKnown}

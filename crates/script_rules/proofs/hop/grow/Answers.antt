@@ -2,7 +2,7 @@ use Rattle.std.proofs.Common.{◌<◌, Err, length, subst, sym}
 use Rattle.tree_model.specs.Networks.{Net}
 use Rattle.tree_routing.specs.Answers.{HopAnswer}
 use Rattle.tree_routing.specs.declared.hop_err.HopErr.{HopErr}
-use Rattle.script_state.specs.Said.{draft_of}
+use Rattle.script_rules.specs.Said.{draft_of}
 use Rattle.script_rules.proofs.HopRules.{loop_named}
 use Rattle.script_rules.proofs.LoopEnds.{there_with_hop}
 use Rattle.script_rules.proofs.hop.grow.Goals as goal

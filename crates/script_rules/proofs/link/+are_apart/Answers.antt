@@ -1,6 +1,6 @@
 use Rattle.std.proofs.Common.{◌≡◌, ap, sym, ◌∙◌, Bool, ℕ, Option, true, false, not, ◌&&◌}
 use Rattle.std.specs.List.{list_any}
-use Rattle.script_state.specs.Said.{draft_of}
+use Rattle.script_rules.specs.Said.{draft_of}
 use Rattle.script_rules.specs.LinkEnds.{are_apart, is_at, node_at}
 use Rattle.script_rules.proofs.Apart.{first_apart, others}
 use Rattle.script_rules.proofs.link.+are_apart.Goals as goal

@@ -1,18 +1,18 @@
 use Rattle.std.proofs.Common.{◌≡◌, ◌≤◌, List, ℕ, [], length, sym, ap, subst, ◌∙◌, arith}
 use Rattle.rsvp_base.specs.Members.{In}
 use Rattle.tree_model.proofs.TreeLaws.{true_false}
-use Rattle.script_state.specs.Listed.{IsOfEnds}
+use Rattle.script_rules.specs.Listed.{IsOfEnds}
 use Rattle.tree_model.specs.declared.hops.End.{End}
 use Rattle.tree_model.specs.Networks.{Net, link_of}
 use Rattle.tree_routing.specs.Answers.{TakesLink, with_link}
 use Rattle.script_grammar.specs.Adds.{link_value}
-use Rattle.script_state.specs.Said.{draft_of}
-use Rattle.script_state.specs.Fitness.{ArePlaced}
-use Rattle.script_state.specs.Forcing.{IsOfNet, hops_in_force}
+use Rattle.script_rules.specs.Said.{draft_of}
+use Rattle.script_rules.specs.Fitness.{ArePlaced}
+use Rattle.script_rules.specs.Forcing.{IsOfNet, hops_in_force}
 use Rattle.script_rules.specs.LinkEnds.{are_apart, is_known}
 use Rattle.std.specs.List.{list_all}
-use Rattle.script_state.proofs.Forced.{ends_kept, nothing_forced}
-use Rattle.script_state.proofs.Members.{all_in_of, in_all_of}
+use Rattle.script_rules.proofs.Forced.{ends_kept, nothing_forced}
+use Rattle.script_rules.proofs.Members.{all_in_of, in_all_of}
 use Rattle.script_rules.proofs.LinkRules.{apart_told, apart_tested, known_told, known_tested, takes}
 use Rattle.script_rules.proofs.link.add_link.Goals as goal
 

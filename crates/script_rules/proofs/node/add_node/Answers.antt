@@ -1,11 +1,11 @@
 use Rattle.std.proofs.Common.{◌≡◌, ◌≤◌, ◌∷◌, [], List, ℕ, length, length-append, ap, subst, sym, ◌∙◌, arith}
 use Rattle.std.specs.Prelude.{◌/◌, unwrap_or}
 use Rattle.tree_model.specs.Networks.{Net}
-use Rattle.script_state.specs.Listed.{facts_in}
-use Rattle.script_state.specs.Fitness.{ArePlaced}
-use Rattle.script_state.specs.Forcing.{IsOfNet}
-use Rattle.script_state.proofs.Places.{none_fit, placed_more}
-use Rattle.script_state.proofs.Forced.{nothing_forced}
+use Rattle.script_rules.specs.Listed.{facts_in}
+use Rattle.script_rules.specs.Fitness.{ArePlaced}
+use Rattle.script_rules.specs.Forcing.{IsOfNet}
+use Rattle.script_rules.proofs.Places.{none_fit, placed_more}
+use Rattle.script_rules.proofs.Forced.{nothing_forced}
 use Rattle.script_rules.proofs.node.add_node.Goals as goal
 
 pub invariant_of-state-2-clause-placed : goal.invariant_of-state-2-clause-placed

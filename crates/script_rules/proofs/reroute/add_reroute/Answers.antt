@@ -5,7 +5,7 @@ use Rattle.tree_model.specs.declared.hops.LinkHop.{LinkHop}
 use Rattle.script_grammar.specs.Draft.{routing}
 use Rattle.script_grammar.specs.Values.{IsRerouteInRange, hop_value, hop_values}
 use Rattle.network_model.specs.Moves.{CanMove}
-use Rattle.script_state.specs.Said.{draft_of}
+use Rattle.script_rules.specs.Said.{draft_of}
 use Rattle.script_rules.proofs.RerouteRules.{ends_known, looked_up, reroute_kept, reroute_refused, routes_known}
 use Rattle.script_rules.proofs.reroute.add_reroute.Goals as goal
 

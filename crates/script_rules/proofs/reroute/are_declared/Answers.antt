@@ -5,7 +5,7 @@ use Rattle.std.proofs.lemmas.List.{take_all}
 use Rattle.std.proofs.lemmas.List.Elements.{All-more}
 use Rattle.script_grammar.specs.Rules.{IsEnd}
 use Rattle.script_grammar.specs.declared.line.HopEnds.{HopEnds}
-use Rattle.script_state.specs.Said.{draft_of}
+use Rattle.script_rules.specs.Said.{draft_of}
 use Rattle.script_rules.proofs.reroute.are_declared.Goals as goal
 
 pub loop-ends-preserved : goal.loop-ends-preserved

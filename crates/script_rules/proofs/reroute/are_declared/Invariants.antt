@@ -1,6 +1,6 @@
 use Rattle.std.proofs.Common.{take}
 use Rattle.std.specs.List.{All}
-use Rattle.script_state.specs.Said.{draft_of}
+use Rattle.script_rules.specs.Said.{draft_of}
 use Rattle.script_rules.specs.Asking.{IsDeclared}
 use Rattle.script_rules.proofs.reroute.are_declared.Given as goal
 

@@ -2,7 +2,7 @@ use Rattle.std.proofs.Common.{◌<◌, Err, length, subst}
 use Rattle.tree_model.specs.Networks.{Net}
 use Rattle.tree_routing.specs.Reroutes.{RerouteAnswer}
 use Rattle.tree_routing.specs.declared.hop_err.HopErr.{HopErr}
-use Rattle.script_state.specs.Said.{draft_of}
+use Rattle.script_rules.specs.Said.{draft_of}
 use Rattle.script_rules.proofs.LoopEnds.{there_rerouted}
 use Rattle.script_rules.proofs.RerouteRules.{tree_loop_named}
 use Rattle.script_rules.proofs.reroute.moved_in.Goals as goal

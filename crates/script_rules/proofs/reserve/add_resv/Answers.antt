@@ -15,7 +15,7 @@ use Rattle.script_words.specs.declared.raw.SenderWord.{SenderWord}
 use Rattle.script_grammar.specs.Draft.{end_number, lifetime_of_period, period_of}
 use Rattle.script_grammar.specs.Rules.{IsEnd, IsListOfStyle, sender_list, stale_node}
 use Rattle.script_grammar.specs.Values.{iface_at, senders_value}
-use Rattle.script_state.specs.Said.{draft_of}
+use Rattle.script_rules.specs.Said.{draft_of}
 use Rattle.script_rules.specs.LeftRefusals.{IsLeft, IsNotLeft}
 use Rattle.script_grammar.specs.Adds.{with_stale}
 use Rattle.script_rules.proofs.FitFacts.{fit_resv, sound}

@@ -4,7 +4,7 @@ use Rattle.std.proofs.lemmas.Bool.Decides.{nat_tests}
 use Rattle.tree_model.specs.declared.locals.LocalSender.{LocalSender}
 use Rattle.tree_model.specs.Wants.{live, of_session}
 use Rattle.script_grammar.specs.Adds.{sends, with_sender}
-use Rattle.script_state.specs.Said.{draft_of}
+use Rattle.script_rules.specs.Said.{draft_of}
 use Rattle.script_rules.proofs.SenderRules.{live_again, live_more}
 use Rattle.script_rules.proofs.sender.has_room_for_sender.Goals as goal
 

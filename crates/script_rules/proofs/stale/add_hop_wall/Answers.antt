@@ -4,7 +4,7 @@ use Rattle.rsvp_base.specs.TokenBucket.{IsSound}
 use Rattle.style_rules.specs.declared.wall.Wall.{Wall}
 use Rattle.tree_model.specs.Networks.{node_of}
 use Rattle.script_grammar.specs.Draft.{period_of, wall_lifetime_of_period}
-use Rattle.script_state.specs.Said.{draft_of}
+use Rattle.script_rules.specs.Said.{draft_of}
 use Rattle.script_rules.proofs.FitFacts.{fit_hop_wall, sound}
 use Rattle.script_rules.proofs.stale.add_hop_wall.Goals as goal
 

@@ -4,7 +4,7 @@ use Rattle.path_state.specs.declared.fact.PathFact.{PathFact}
 use Rattle.rsvp_base.specs.TokenBucket.{IsSound}
 use Rattle.tree_model.specs.Networks.{node_of}
 use Rattle.script_grammar.specs.Draft.{lifetime_of_period, period_of}
-use Rattle.script_state.specs.Said.{draft_of}
+use Rattle.script_rules.specs.Said.{draft_of}
 use Rattle.script_rules.proofs.FitFacts.{fit_path, sound}
 use Rattle.script_rules.proofs.stale.add_path.Goals as goal
 

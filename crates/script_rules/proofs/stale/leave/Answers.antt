@@ -6,7 +6,7 @@ use Rattle.stale_state.specs.Listed.{IsOfEnds, facts_in, left_at}
 use Rattle.stale_state.specs.declared.fact.LeftOver.{LeftOver}
 use Rattle.router_rules.specs.Steps.{IsFitStale}
 use Rattle.tree_model.specs.declared.hops.End.{End}
-use Rattle.script_state.specs.Said.{draft_of}
+use Rattle.script_rules.specs.Said.{draft_of}
 use Rattle.script_rules.proofs.LeftRules.{all_still, is_full, is_over}
 use Rattle.script_rules.proofs.stale.leave.Goals as goal
 

@@ -12,7 +12,7 @@ use Rattle.script_grammar.specs.Adds.{wanted, wants_at, with_wants}
 use Rattle.script_grammar.specs.Draft.{node_named, place_of}
 use Rattle.script_grammar.specs.Rules.{AreDistinct, sender_list}
 use Rattle.script_grammar.specs.Values.{IsWantInRange, senders_value}
-use Rattle.script_state.specs.Said.{draft_of}
+use Rattle.script_rules.specs.Said.{draft_of}
 use Rattle.script_rules.proofs.WantLines.{want_kept, with_it, fit_list}
 use Rattle.script_rules.proofs.want.add_want.Goals as goal
 

@@ -4,7 +4,7 @@ use Rattle.script_words.specs.Sessions.{session_value}
 use Rattle.tree_model.specs.declared.locals.LocalWant.{LocalWant}
 use Rattle.script_grammar.specs.Adds.{wants_at}
 use Rattle.script_grammar.specs.Draft.{node_number}
-use Rattle.script_state.specs.Said.{draft_of}
+use Rattle.script_rules.specs.Said.{draft_of}
 use Rattle.script_rules.proofs.want.is_of_wanted_style.Goals as goal
 
 pub returns : goal.returns

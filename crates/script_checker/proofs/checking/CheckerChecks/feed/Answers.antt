@@ -1,4 +1,4 @@
-use Rattle.script_state.specs.Said.{draft_of}
+use Rattle.script_rules.specs.Said.{draft_of}
 use Rattle.script_checker.proofs.FedLines.{skipped}
 use Rattle.script_checker.proofs.checking.CheckerChecks.feed.Goals as goal
 
