@@ -1,6 +1,6 @@
 -- The advice on the line by which a run ended as bad, or crowded.
 use Rattle.std.specs.Prelude.{◌≡◌, ℕ, List, []}
-use Rattle.script_advice.specs.Advice.{IsToldLine}
+use Rattle.script_grammar.specs.Advice.{IsToldLine}
 use Rattle.message_show.specs.ShowAdvice.{IsToldDigits}
 use Rattle.script_grammar.specs.declared.fault.Fault.{Fault}
 use Rattle.script_run.specs.Advised.{IsCrowdedAdvice}

@@ -4,9 +4,8 @@ ghost use Rattle.script_checker.specs.Checked.{draft_of};
 
 use byte_streams::{MemorySink, MemorySource};
 use rsvp_base::NoMemory;
-use script_advice::put_advice;
 use script_checker::Checker;
-use script_grammar::{Fault, Stop};
+use script_grammar::{Fault, Stop, put_advice};
 use script_run::{Checks, Ending, Player, Unwatched, Watch, run_lines};
 use std::alloc::Global;
 use std::test::Fail;

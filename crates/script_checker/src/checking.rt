@@ -8,15 +8,14 @@ ghost use Rattle.script_grammar.specs.Values.{hop_value};
 ghost use Rattle.script_grammar.specs.declared.line.ScriptLine.TheVariants as said;
 ghost use Rattle.script_run.specs.Checking.{Feeds};
 ghost use Rattle.script_rules.specs.Said.{draft_of};
-ghost use Rattle.script_advice.specs.Breaks.{IsLinked};
+ghost use Rattle.script_grammar.specs.Breaks.{IsLinked};
 
 use crate::checker::Checker;
 use crate::rules::add;
 use crate::starting::{copies, quarter};
 use network_model::Event;
 use rsvp_base::{Addr, NoMemory, Session, StyleKind};
-use script_advice::LinesBefore;
-use script_grammar::{Fault, HopEnds, Stop, read_line};
+use script_grammar::{Fault, HopEnds, LinesBefore, Stop, read_line};
 use script_rules::ScriptState;
 use script_run::{Checks, Start};
 use script_words::Unread;

@@ -1,6 +1,6 @@
 -- How the checking of lines ends at a bad one, and what is told of it.
 use Rattle.std.specs.Prelude.{◌≡◌, ℕ, List, []}
-use Rattle.script_advice.specs.Advice.{IsAdvice}
+use Rattle.script_grammar.specs.Advice.{IsAdvice}
 use Rattle.script_grammar.specs.Asking.{AsksToBeTaken}
 use Rattle.script_grammar.specs.Draft.{Draft}
 use Rattle.script_grammar.specs.Grammar.{HasFault}

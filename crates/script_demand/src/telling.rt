@@ -3,8 +3,7 @@ ghost use Rattle.std.specs.Prelude.{◌≤◌, vec_capacity};
 ghost use Rattle.line_advice.specs.Blamed.{most_advice};
 ghost use Rattle.script_demand.specs.Telling.{EndsTold};
 
-use script_advice::{LinesBefore, put_advice};
-use script_grammar::Fault;
+use script_grammar::{Fault, LinesBefore, put_advice};
 use script_run::Ending;
 use std::alloc::Global;
 

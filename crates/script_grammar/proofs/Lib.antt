@@ -9,3 +9,9 @@ pub mod Scripts
 mod Formed
 pub mod FormLaws
 pub mod SaidAs
+mod Misread
+mod Advising
+mod Asked
+mod FewWords
+mod OutOf
+mod Short

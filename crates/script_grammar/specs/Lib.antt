@@ -19,3 +19,12 @@ pub use Rattle.network_model.specs.Events
 pub use Rattle.network_model.specs.Runs
 pub use Rattle.network_model.specs.Steps
 pub use Rattle.network_model.specs.Worlds
+pub mod Known
+pub mod Breaks
+pub mod TreeBlames
+pub mod Blames
+pub mod FieldTexts
+pub mod KindTexts
+pub mod RuleTexts
+pub mod Advice
+pub mod BlameLaws

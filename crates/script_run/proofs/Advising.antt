@@ -1,7 +1,7 @@
 -- Why a run ends at a bad line, and what is told of it.
 use Rattle.std.proofs.Common.{ℕ, List}
 use Rattle.rsvp_base.specs.declared.room.NoMemory.{NoMemory}
-use Rattle.script_advice.specs.Advice.{IsAdvice, IsAdviceOrNone}
+use Rattle.script_grammar.specs.Advice.{IsAdvice, IsAdviceOrNone}
 use Rattle.script_grammar.specs.Draft.{Draft}
 use Rattle.script_grammar.specs.Grammar.{HasFault}
 use Rattle.script_grammar.specs.declared.fault.Fault.{Fault}

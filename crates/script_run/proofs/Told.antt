@@ -5,7 +5,7 @@ use Rattle.script_grammar.specs.Draft.{Draft}
 use Rattle.script_grammar.specs.Grammar.{line_number, most_line, too_long}
 use Rattle.script_grammar.specs.declared.fault.Fault.{Fault}
 use Rattle.script_grammar.specs.declared.fault.Fault.TheVariants as fault
-use Rattle.script_advice.specs.Advice.{IsAdvice, IsToldLine}
+use Rattle.script_grammar.specs.Advice.{IsAdvice, IsToldLine}
 use Rattle.byte_streams.specs.Streams.{Held}
 use Rattle.byte_streams.proofs.Behind.{HasLine, HasLong}
 use Rattle.byte_streams.proofs.Known.{all_known}

@@ -2,7 +2,7 @@
 use Rattle.std.specs.Prelude.{◌≡◌, ℕ, List, [], ◌++◌, codes, length}
 use Rattle.std.specs.Fmt.{decimal}
 use Rattle.script_grammar.specs.Draft.{Draft}
-use Rattle.script_advice.specs.Advice.{IsAdvice, IsToldLine}
+use Rattle.script_grammar.specs.Advice.{IsAdvice, IsToldLine}
 use Rattle.script_grammar.specs.Grammar.{line_number}
 use Rattle.script_run.specs.Endings.{IsFirstCrowded}
 use Rattle.script_run.specs.Playing.{Stops}

@@ -7,8 +7,7 @@ ghost use Rattle.script_run.specs.Checking.{Feeds, IsStartOf};
 
 use network_model::Event;
 use rsvp_base::{EndName, NoMemory};
-use script_advice::LinesBefore;
-use script_grammar::Stop;
+use script_grammar::{LinesBefore, Stop};
 use stale_state::LeftOver;
 use tree_routing::Routing;
 

@@ -2,7 +2,7 @@
 ghost use Rattle.std.specs.Prelude.{◌≡◌, ◌≤◌, List, ℕ, length, vec_capacity};
 ghost use Rattle.line_advice.specs.Blamed.{most_advice};
 ghost use Rattle.script_grammar.specs.Draft.{Draft};
-ghost use Rattle.script_advice.specs.Advice.{IsAdviceOrNone};
+ghost use Rattle.script_grammar.specs.Advice.{IsAdviceOrNone};
 ghost use Rattle.script_run.specs.Playing.{Plays};
 ghost use Rattle.script_run.specs.Shown.{ShowsOn};
 ghost use Rattle.script_run.specs.Written.{IsRunSoFar};

@@ -18,8 +18,7 @@ use crate::player::Player;
 use byte_streams::{LineReader, NextLine, Sink, Source, write_all};
 use line_advice::make_room;
 use network_replay::Watch;
-use script_advice::put_long;
-use script_grammar::{Fault, Stop};
+use script_grammar::{Fault, Stop, put_long};
 use std::alloc::Global;
 
 /// Reads a script of the source line by line: each line is checked and run by the player, and what it wrote is written to the

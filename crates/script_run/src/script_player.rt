@@ -21,8 +21,7 @@ use crate::player::Player;
 use network_model::Event;
 use network_replay::{NoTree, Watch, World, WorldErr};
 use rsvp_base::NoMemory;
-use script_advice::put_advice;
-use script_grammar::{Fault, Stop};
+use script_grammar::{Fault, Stop, put_advice};
 use std::alloc::Global;
 
 /// Checks the lines of a script and runs their events. It has what checks them and, from the first event on, the network that they

@@ -1,6 +1,0 @@
-mod Misread
-mod Advising
-mod Asked
-mod FewWords
-mod OutOf
-mod Short

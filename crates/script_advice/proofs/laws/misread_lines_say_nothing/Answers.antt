@@ -1,5 +1,0 @@
-use Rattle.script_advice.proofs.Misread.{misread_says_nothing}
-use Rattle.script_advice.proofs.laws.misread_lines_say_nothing.Goals as goal
-
-pub returns : goal.returns
-returns c = misread_says_nothing

@@ -1,9 +1,0 @@
-pub mod Known
-pub mod Breaks
-pub mod TreeBlames
-pub mod Blames
-pub mod FieldTexts
-pub mod KindTexts
-pub mod RuleTexts
-pub mod Advice
-pub mod Laws
