@@ -1,5 +1,5 @@
 //! A pool of four slots over long waits, and one of none.
-use soft_pool::Pool;
+use soft_table::Pool;
 use std::alloc::Global;
 use std::test::Fail;
 

@@ -1,7 +1,7 @@
 //! The work on a pool of slots that is timed: waits in which nothing runs out.
 
 use crate::tables::{Served, both, once};
-use soft_pool::Pool;
+use soft_table::Pool;
 use std::alloc::Global;
 
 /// How many values live while time passes.

@@ -7,11 +7,11 @@ use Rattle.rsvp_base.specs.Orders.{sessions}
 use Rattle.rsvp_base.specs.Table.{passes}
 use Rattle.rsvp_base.specs.Under.{rows_under, sorted_under}
 use Rattle.rsvp_base.specs.declared.session.Session.{Session}
-use Rattle.session_index.specs.Lists.{slot_of}
-use Rattle.soft_pool.specs.declared.cell.Cell.{Cell}
-use Rattle.soft_pool.specs.declared.cell.Slot.{Slot}
-use Rattle.soft_pool.specs.declared.cell.Cell.TheVariants.{Free, Live, Due}
-use Rattle.soft_pool.specs.Cells.{IsLiveWith}
+use Rattle.soft_table.specs.Lists.{slot_of}
+use Rattle.soft_table.specs.declared.cell.Cell.{Cell}
+use Rattle.soft_table.specs.declared.cell.Slot.{Slot}
+use Rattle.soft_table.specs.declared.cell.Cell.TheVariants.{Free, Live, Due}
+use Rattle.soft_table.specs.Cells.{IsLiveWith}
 use Rattle.soft_table.specs.Facts.{facts_by, rows_behind}
 use Rattle.soft_table.specs.Index.{live_in, value_in, facts_in, IsIndex}
 use Rattle.soft_table.specs.Walks.{live_of, fact_in, facts_from, IsRowOf}

@@ -12,12 +12,12 @@ use Rattle.rsvp_base.specs.declared.session.Session.{Session}
 use Rattle.rsvp_base.proofs.Counts.{in_found}
 use Rattle.rsvp_base.proofs.Fronts.{got_in}
 use Rattle.rsvp_base.proofs.Tables.{then_do, without_absent}
-use Rattle.soft_pool.specs.declared.cell.Cell.{Cell}
-use Rattle.soft_pool.specs.declared.cell.Cell.TheVariants.{Free, Live, Due}
-use Rattle.soft_pool.specs.Cells.{aged, is_live}
+use Rattle.soft_table.specs.declared.cell.Cell.{Cell}
+use Rattle.soft_table.specs.declared.cell.Cell.TheVariants.{Free, Live, Due}
+use Rattle.soft_table.specs.Cells.{aged, is_live}
 use Rattle.soft_table.specs.Facts.{fact_keys, facts_by, dead_by}
 use Rattle.soft_table.specs.Index.{value_in, live_in, due_in, facts_in, dead_in, IsLinked, IsIndex}
-use Rattle.soft_pool.proofs.Slots.{set_read}
+use Rattle.soft_table.proofs.PoolSlots.{set_read}
 use Rattle.soft_table.proofs.Slots.{value_within, counts}
 use Rattle.soft_table.proofs.Links.{seen, get-seen, seen_replaced, seen_taken, seen_new, linked_replaced, linked_taken, linked_new, linked_later, linked_none, linked_freed}
 use Rattle.soft_table.proofs.Views.{facts_seen, dead_seen}

@@ -8,12 +8,12 @@ use Rattle.rsvp_base.specs.Keys.{Keys}
 use Rattle.rsvp_base.specs.Table.{Table, get, size, empty, put_in, without, changed}
 use Rattle.rsvp_base.specs.declared.session.Session.{Session}
 use Rattle.rsvp_base.proofs.Tables.{either, tied_same, tied_self, get-put_in_same, get-put_in_other, size-put_in, get-without, same_table, then_do, get-changed}
-use Rattle.soft_pool.specs.declared.cell.Cell.{Cell}
-use Rattle.soft_pool.specs.declared.cell.Cell.TheVariants.{Free}
-use Rattle.soft_pool.specs.Cells.{aged}
+use Rattle.soft_table.specs.declared.cell.Cell.{Cell}
+use Rattle.soft_table.specs.declared.cell.Cell.TheVariants.{Free}
+use Rattle.soft_table.specs.Cells.{aged}
 use Rattle.soft_table.specs.Facts.{fact_keys}
 use Rattle.soft_table.specs.Index.{value_in, IsLinked}
-use Rattle.soft_pool.proofs.Slots.{within, set_read, set_elsewhere}
+use Rattle.soft_table.proofs.PoolSlots.{within, set_read, set_elsewhere}
 use Rattle.soft_table.proofs.Slots.{value_within, counts, used_set, used_none, used_freed, none_in, none_freed, value_later, used_later}
 
 pub turned : {K : Type 0} (o : Keys K) (q k : K) → eq_by_cmp o.cmp q k ≡ false → eq_by_cmp o.cmp k q ≡ false

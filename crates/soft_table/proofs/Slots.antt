@@ -5,9 +5,9 @@ use Rattle.std.specs.List.{list_any}
 use Rattle.std.specs.Option.{option_map}
 use Rattle.std.proofs.lemmas.Bool.{both_ways, cases_lt}
 use Rattle.std.proofs.lemmas.Option.{slice_get_past}
-use Rattle.soft_pool.specs.declared.cell.Cell.{Cell}
-use Rattle.soft_pool.specs.declared.cell.Cell.TheVariants.{Free, Live, Due}
-use Rattle.soft_pool.specs.Cells.{aged, cell_is_due, NoneDue, NoneFree}
+use Rattle.soft_table.specs.declared.cell.Cell.{Cell}
+use Rattle.soft_table.specs.declared.cell.Cell.TheVariants.{Free, Live, Due}
+use Rattle.soft_table.specs.Cells.{aged, cell_is_due, NoneDue, NoneFree}
 use Rattle.rsvp_base.proofs.Tables.{then_do}
 use Rattle.soft_table.specs.Facts.{lives_on, dies}
 use Rattle.soft_table.specs.Index.{value_in, live_in, due_in, used}

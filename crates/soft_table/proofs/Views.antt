@@ -9,13 +9,13 @@ use Rattle.rsvp_base.specs.Table.{Table, get, size, changed_rows, kept_row}
 use Rattle.rsvp_base.specs.declared.session.Session.{Session}
 use Rattle.rsvp_base.proofs.Counts.{in_found}
 use Rattle.rsvp_base.proofs.Tables.{holds, then_do}
-use Rattle.soft_pool.specs.declared.cell.Cell.{Cell}
-use Rattle.soft_pool.specs.declared.cell.Cell.TheVariants.{Free, Live, Due}
+use Rattle.soft_table.specs.declared.cell.Cell.{Cell}
+use Rattle.soft_table.specs.declared.cell.Cell.TheVariants.{Free, Live, Due}
 use Rattle.soft_table.specs.Facts.{fact_keys, facts_by, dead_by, IsInOrder, lives_on, dies}
 use Rattle.soft_table.specs.Index.{value_in, live_in, due_in, used, facts_in, dead_in, IsLinked, IsIndex}
 use Rattle.soft_table.proofs.Slots.{no_due_in, none_due_if, live_later, due_later}
 use Rattle.soft_table.proofs.Links.{seen, get-seen}
-use Rattle.soft_pool.specs.Cells.{aged, NoneDue}
+use Rattle.soft_table.specs.Cells.{aged, NoneDue}
 use Rattle.std.proofs.lemmas.List.{length-map}
 
 -- ---- rows that are dropped or have another value

@@ -21,10 +21,10 @@ use Rattle.rsvp_base.proofs.Counts.{has-set_of, found_in}
 use Rattle.rsvp_base.proofs.SessionCounts.{is_full, any_under}
 use Rattle.rsvp_base.proofs.SetLaws.{has-with_key, same_set, size-with_key}
 use Rattle.rsvp_base.proofs.Tables.{either, tied_same, tied_self, get-kept}
-use Rattle.session_index.specs.Lists.{slot_of, sessions_of}
-use Rattle.soft_pool.specs.declared.cell.Cell.{Cell}
-use Rattle.soft_pool.specs.declared.cell.Cell.TheVariants.{Free, Live, Due}
-use Rattle.soft_pool.specs.Cells.{is_live}
+use Rattle.soft_table.specs.Lists.{slot_of, sessions_of}
+use Rattle.soft_table.specs.declared.cell.Cell.{Cell}
+use Rattle.soft_table.specs.declared.cell.Cell.TheVariants.{Free, Live, Due}
+use Rattle.soft_table.specs.Cells.{is_live}
 use Rattle.soft_table.specs.Facts.{fact_keys, facts_by, rows_behind, sessions_in}
 use Rattle.soft_table.specs.Index.{live_in, value_in, facts_in, IsIndex}
 use Rattle.soft_table.specs.Walks.{AreSlots, IsWalk, live_of, has_live, changes}

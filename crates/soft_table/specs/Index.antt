@@ -3,8 +3,8 @@ use Rattle.std.specs.Prelude.{◌≡◌, ◌+◌, ℕ, List, [], ◌∷◌, map 
 use Rattle.rsvp_base.specs.Keys.{Keys}
 use Rattle.rsvp_base.specs.Table.{Table, get, size, changed_rows}
 use Rattle.rsvp_base.specs.declared.session.Session.{Session}
-use Rattle.soft_pool.specs.declared.cell.Cell.{Cell}
-use Rattle.soft_pool.specs.declared.cell.Cell.TheVariants.{Free, Live, Due}
+use Rattle.soft_table.specs.declared.cell.Cell.{Cell}
+use Rattle.soft_table.specs.declared.cell.Cell.TheVariants.{Free, Live, Due}
 use Rattle.soft_table.specs.Facts.{fact_keys}
 
 -- ---- what is in a slot

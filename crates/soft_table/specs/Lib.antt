@@ -1,3 +1,8 @@
+pub mod Links
+pub mod Cells
+pub mod Wheel
+pub mod Lists
+pub mod Ring
 pub mod Facts
 pub mod Index
 pub mod Walks

@@ -7,9 +7,9 @@ use Rattle.rsvp_base.specs.Orders.{sessions}
 use Rattle.rsvp_base.specs.Table.{changed_rows}
 use Rattle.rsvp_base.specs.Under.{rows_under}
 use Rattle.rsvp_base.specs.declared.session.Session.{Session}
-use Rattle.session_index.specs.Lists.{slot_of}
-use Rattle.soft_pool.specs.declared.cell.Cell.{Cell}
-use Rattle.soft_pool.specs.declared.cell.Slot.{Slot}
+use Rattle.soft_table.specs.Lists.{slot_of}
+use Rattle.soft_table.specs.declared.cell.Cell.{Cell}
+use Rattle.soft_table.specs.declared.cell.Slot.{Slot}
 use Rattle.soft_table.specs.Facts.{facts_by, rows_behind}
 use Rattle.soft_table.specs.Index.{live_in}
 

@@ -1,6 +1,6 @@
 //! The order of the rows of a table.
 use crate::fact::Fact;
-use session_index::RestOrder;
+use crate::rest_order::RestOrder;
 use std::cmp::Ordering;
 use std::marker::PhantomData;
 

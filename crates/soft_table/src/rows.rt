@@ -5,16 +5,17 @@ ghost use Rattle.std.specs.Option.{option_copied, option_map};
 ghost use Rattle.rsvp_base.specs.Orders.{sessions};
 ghost use Rattle.rsvp_base.specs.Table.{size, kept};
 ghost use Rattle.rsvp_base.specs.Under.{rows_under};
-ghost use Rattle.session_index.specs.Lists.{slot_of, sessions_of};
+ghost use Rattle.soft_table.specs.Lists.{slot_of, sessions_of};
 ghost use Rattle.soft_table.specs.Facts.{rows_behind};
 ghost use Rattle.soft_table.specs.Index.{live_in, value_in};
 ghost use Rattle.soft_table.specs.Walks.{AreSlots, IsRowOf, live_of, has_live};
 
+use crate::cell::Slot;
 use crate::fact::Fact;
 use crate::order::Rests;
+use crate::pool::Pool;
+use crate::session_lists::SessionLists;
 use rsvp_base::Session;
-use session_index::SessionLists;
-use soft_pool::{Pool, Slot};
 use std::cmp::Ordering;
 
 // The fact in a slot, where it is live.

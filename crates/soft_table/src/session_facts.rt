@@ -6,12 +6,13 @@ ghost use Rattle.rsvp_base.specs.Under.{rows_under};
 ghost use Rattle.soft_table.specs.Facts.{facts_by};
 ghost use Rattle.soft_table.specs.Index.{facts_in, IsIndex};
 
+use crate::cell::Slot;
 use crate::fact::Fact;
 use crate::order::Rests;
+use crate::pool::Pool;
 use crate::rows::nth;
+use crate::session_lists::SessionLists;
 use rsvp_base::Session;
-use session_index::SessionLists;
-use soft_pool::{Pool, Slot};
 use std::marker::Model;
 
 /// The facts of a session in the order of the rests of their keys. Dead facts do not count. Contracts see the facts that are

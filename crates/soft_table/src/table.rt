@@ -10,14 +10,15 @@ ghost use Rattle.rsvp_base.specs.Table.{size};
 ghost use Rattle.rsvp_base.specs.Under.{rows_under};
 ghost use Rattle.soft_table.specs.Facts.{fact_keys, facts_by, dead_by, sessions_in, rows_behind, IsInOrder, lives_on, dies};
 
+use crate::cell::Slot;
 use crate::fact::Fact;
 use crate::finger::Finger;
 use crate::order::Rests;
+use crate::pool::Pool;
 use crate::rows::{behind, count_sessions, fact_in, nth};
 use crate::session_facts::{SessionFacts, facts_of};
+use crate::session_lists::SessionLists;
 use rsvp_base::{Full, NoMemory, Session};
-use session_index::SessionLists;
-use soft_pool::{Pool, Slot};
 use std::alloc::Global;
 use std::marker::Model;
 

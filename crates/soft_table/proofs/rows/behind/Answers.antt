@@ -3,7 +3,7 @@ use Rattle.std.specs.Prelude.{slice_get}
 use Rattle.rsvp_base.specs.Orders.{sessions}
 use Rattle.rsvp_base.specs.Table.{passes}
 use Rattle.rsvp_base.specs.Under.{rows_under}
-use Rattle.session_index.specs.Lists.{slot_of}
+use Rattle.soft_table.specs.Lists.{slot_of}
 use Rattle.soft_table.proofs.Steps.{behind_drop, first_dropped}
 use Rattle.soft_table.proofs.Walks.{behind_drops}
 use Rattle.soft_table.proofs.rows.behind.Goals as goal

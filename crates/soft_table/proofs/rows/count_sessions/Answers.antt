@@ -1,6 +1,6 @@
 use Rattle.std.proofs.Common.{sym, ap, ◌∙◌, arith}
 use Rattle.rsvp_base.specs.Orders.{sessions}
-use Rattle.session_index.specs.Lists.{sessions_of}
+use Rattle.soft_table.specs.Lists.{sessions_of}
 use Rattle.soft_table.specs.Walks.{has_live}
 use Rattle.soft_table.proofs.Walks.{passing, one_more_of, none_more_of, nothing_left}
 use Rattle.soft_table.proofs.rows.count_sessions.Goals as goal

@@ -2,7 +2,7 @@ use Rattle.std.proofs.Common.{◌≡◌, ℕ}
 use Rattle.std.specs.Prelude.{slice_get}
 use Rattle.rsvp_base.specs.Orders.{sessions}
 use Rattle.rsvp_base.specs.Under.{rows_under}
-use Rattle.session_index.specs.Lists.{slot_of}
+use Rattle.soft_table.specs.Lists.{slot_of}
 use Rattle.soft_table.specs.Walks.{IsWalk}
 use Rattle.soft_table.proofs.rows.nth.Given as goal
 

@@ -1,7 +1,7 @@
 use Rattle.std.proofs.Common.{◌≡◌, [], length, sym, ap, ◌∙◌}
 use Rattle.std.specs.List.{filter_map}
 use Rattle.std.proofs.lemmas.List.{length-map}
-use Rattle.soft_pool.specs.Cells.{aged}
+use Rattle.soft_table.specs.Cells.{aged}
 use Rattle.soft_table.specs.Facts.{lives_on, dies}
 use Rattle.soft_table.specs.Index.{facts_in, dead_in}
 use Rattle.soft_table.proofs.Views.{none_waits, in_order, facts_later, dead_later}

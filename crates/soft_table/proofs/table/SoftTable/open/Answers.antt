@@ -1,7 +1,7 @@
 use Rattle.std.proofs.Common.{rules, ◌≡◌, [], length, replicate, sym, ap, ◌∙◌}
 use Rattle.std.proofs.lemmas.List.{length-replicate}
-use Rattle.soft_pool.specs.declared.cell.Cell.{Cell}
-use Rattle.soft_pool.specs.declared.cell.Cell.TheVariants.{Free}
+use Rattle.soft_table.specs.declared.cell.Cell.{Cell}
+use Rattle.soft_table.specs.declared.cell.Cell.TheVariants.{Free}
 use Rattle.soft_table.proofs.Changes.{index_none}
 use Rattle.soft_table.proofs.table.SoftTable.open.Goals as goal
 

@@ -4,7 +4,7 @@ use Rattle.std.specs.Ordering.{eq_by_cmp}
 use Rattle.std.specs.FinMap.Entries.{find, where_key}
 use Rattle.std.proofs.lemmas.List.{length-set}
 use Rattle.rsvp_base.specs.Table.{get}
-use Rattle.soft_pool.specs.declared.cell.Cell.TheVariants.{Free, Due}
+use Rattle.soft_table.specs.declared.cell.Cell.TheVariants.{Free, Due}
 use Rattle.rsvp_base.proofs.Tables.{then_do}
 use Rattle.soft_table.specs.Facts.{IsInOrder, fact_keys, dead_by}
 use Rattle.soft_table.specs.Index.{value_in, facts_in, dead_in, live_in, due_in, IsIndex}

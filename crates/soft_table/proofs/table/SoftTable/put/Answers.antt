@@ -1,8 +1,8 @@
 use Rattle.std.proofs.Common.{◌≡◌, [], length, Some, None, refl, sym, ap, subst, ◌∙◌, arith}
 use Rattle.std.specs.FinMap.Entries.{find, put}
 use Rattle.std.proofs.lemmas.List.{length-set}
-use Rattle.soft_pool.specs.declared.cell.Cell.TheVariants.{Free, Live}
-use Rattle.soft_pool.proofs.Slots.{within}
+use Rattle.soft_table.specs.declared.cell.Cell.TheVariants.{Free, Live}
+use Rattle.soft_table.proofs.PoolSlots.{within}
 use Rattle.soft_table.specs.Facts.{IsInOrder, fact_keys, facts_by}
 use Rattle.soft_table.specs.Index.{facts_in, dead_in, live_in}
 use Rattle.soft_table.proofs.Slots.{used_all, used_some}

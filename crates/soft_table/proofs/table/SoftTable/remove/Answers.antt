@@ -4,7 +4,7 @@ use Rattle.std.specs.Option.{option_map}
 use Rattle.std.specs.Ordering.{eq_by_cmp}
 use Rattle.std.specs.FinMap.Entries.{find, where_key}
 use Rattle.std.proofs.lemmas.List.{length-set}
-use Rattle.soft_pool.specs.declared.cell.Cell.TheVariants.{Free, Live}
+use Rattle.soft_table.specs.declared.cell.Cell.TheVariants.{Free, Live}
 use Rattle.soft_table.specs.Facts.{IsInOrder, fact_keys, facts_by}
 use Rattle.soft_table.specs.Index.{live_in, due_in}
 use Rattle.soft_table.proofs.Views.{in_order}

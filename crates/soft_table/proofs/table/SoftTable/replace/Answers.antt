@@ -1,7 +1,7 @@
 use Rattle.std.proofs.Common.{◌≡◌, Some, None, length, sym, ap, subst, ◌∙◌}
 use Rattle.std.specs.FinMap.Entries.{find, put}
 use Rattle.std.proofs.lemmas.List.{length-set}
-use Rattle.soft_pool.specs.declared.cell.Cell.TheVariants.{Live}
+use Rattle.soft_table.specs.declared.cell.Cell.TheVariants.{Live}
 use Rattle.soft_table.specs.Facts.{IsInOrder, fact_keys, facts_by}
 use Rattle.soft_table.specs.Index.{live_in, facts_in}
 use Rattle.soft_table.proofs.Views.{in_order}

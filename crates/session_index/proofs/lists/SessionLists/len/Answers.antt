@@ -1,6 +1,0 @@
-use Rattle.std.proofs.Common.{length, sym, ap, ◌∙◌}
-use Rattle.session_index.proofs.Held.{length_rows}
-use Rattle.session_index.proofs.lists.SessionLists.len.Goals as goal
-
-pub returns : goal.returns
-returns g c = c.len.ensures ∙ sym (length_rows c.self.inside.keys.items c.self.inside.slots.slots c.self.invariant.0.full) ∙ ap (λ v. length v.rows) c.self.view_is

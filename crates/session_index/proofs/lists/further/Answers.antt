@@ -1,8 +1,0 @@
-use Rattle.std.proofs.Common.{IfSome, subst}
-use Rattle.session_index.specs.Lists.{IsUpTo}
-use Rattle.session_index.proofs.lists.further.Goals as goal
-
-pub key_at-marked-requires : goal.key_at-marked-requires
-key_at-marked-requires g c =
-    let up_to = subst (λ o. IfSome o (λ s. IsUpTo g.O.RestOrder.rests c.args.keys.now (c.args.session, c.args.rest.now) s)) c.in-Some.is c.pass_marks.ensures in
-    (up_to.0, up_to.1)
