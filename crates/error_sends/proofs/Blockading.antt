@@ -27,7 +27,7 @@ use Rattle.blockade_state.specs.Blockades.{WallMap}
 use Rattle.router_rules.specs.Errors.{blamed_senders, blockade_of, is_admission, sets_walls, walled_by, walls_with}
 use Rattle.router_rules.specs.Facts.{Blockade}
 use Rattle.router_rules.specs.NodeConfig.{NodeConfig, wall_lifetime}
-use Rattle.laws_inputs.proofs.Once.{not_below_itself}
+use Rattle.laws_bounds.proofs.Once.{not_below_itself}
 use Rattle.laws_sends.specs.State.{wall_at}
 use Rattle.laws_sends.proofs.Via.{take_one}
 use Rattle.error_sends.specs.ResvErrs.{have_room, sender_wall, walls_by, walls_put, walls_set}

@@ -41,9 +41,9 @@ use Rattle.router_rules.specs.Known.{Lane, names_via, names_via_where, via}
 use Rattle.router_rules.specs.NodeConfig.{NodeConfig, goes_out}
 use Rattle.router_rules.specs.Requests.{is_style}
 use Rattle.router_rules.specs.Sends.{conf_send, conf_sends, error_send, error_sends}
-use Rattle.laws_inputs.specs.OrderLaws.{IsInOrder, conf_place}
-use Rattle.laws_inputs.proofs.Knowing.{named_made, names_told}
-use Rattle.laws_inputs.proofs.Once.{given_rise}
+use Rattle.laws_bounds.specs.OrderLaws.{IsInOrder, conf_place}
+use Rattle.laws_bounds.proofs.Knowing.{named_made, names_told}
+use Rattle.laws_bounds.proofs.Once.{given_rise}
 use Rattle.laws_sends.specs.State.{resv_at}
 use Rattle.laws_sends.specs.Upward.{up_for}
 use Rattle.laws_sends.proofs.Towards.{blockaded_same, names_out_are, then_filtered}

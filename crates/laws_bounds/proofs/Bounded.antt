@@ -3,18 +3,18 @@ use Rattle.std.specs.Prelude.{◌≡◌, ℕ, ◌≤◌, List, Some}
 use Rattle.std.proofs.Common.{sym, ap, subst, ⊎_elim, arith}
 use Rattle.rsvp_base.specs.declared.iface.Iface.{Iface}
 use Rattle.rsvp_base.specs.Table.{get}
-use Rattle.laws_inputs.specs.RouterRules.declared.route.Route.{Route}
+use Rattle.router_rules.specs.declared.route.Route.{Route}
 use Rattle.style_rules.specs.declared.target.Target.{Target}
 use Rattle.style_rules.specs.declared.target.Target.TheVariants as target
-use Rattle.laws_inputs.specs.RouterRules.Act.{act}
-use Rattle.laws_inputs.specs.RouterRules.Bounds.{AreAlive, AreShaped, AreWithinLimits, IsPathShaped, IsTarget, IsWithinBounds}
-use Rattle.laws_inputs.specs.RouterRules.Facts.{Facts, PathState}
-use Rattle.laws_inputs.specs.RouterRules.Inputs.{Input}
-use Rattle.laws_inputs.specs.RouterRules.NodeConfig.{NodeConfig}
-use Rattle.laws_inputs.specs.Sources.{IsLearnt}
-use Rattle.laws_inputs.specs.RouterRules.Steps.{IsFit, IsSameNode, clock_after, facts_then}
-use Rattle.laws_inputs.proofs.Framing.{wants_then}
-use Rattle.laws_inputs.proofs.Stepping.{came_from}
+use Rattle.router_rules.specs.Act.{act}
+use Rattle.router_rules.specs.Bounds.{AreAlive, AreShaped, AreWithinLimits, IsPathShaped, IsTarget, IsWithinBounds}
+use Rattle.router_rules.specs.Facts.{Facts, PathState}
+use Rattle.router_rules.specs.Inputs.{Input}
+use Rattle.router_rules.specs.NodeConfig.{NodeConfig}
+use Rattle.laws_bounds.specs.Sources.{IsLearnt}
+use Rattle.router_rules.specs.Steps.{IsFit, IsSameNode, clock_after, facts_then}
+use Rattle.laws_bounds.proofs.Framing.{wants_then}
+use Rattle.laws_bounds.proofs.Stepping.{came_from}
 use Rattle.laws_bounds.specs.BoundLaws.{AStepKeepsANodeWithinBounds}
 use Rattle.laws_bounds.proofs.Keeping.{IsSet, due_within, few_walls, lives_on, path_fits, paths_outlive, paths_within, time_passes, walls_outlive, walls_source}
 use Rattle.laws_bounds.proofs.LocalFacts.{AreSendersWithin, AreWantsWithin, marks_keep, senders_keep, wants_keep}

@@ -24,11 +24,11 @@ use Rattle.style_rules.specs.CutLaws.{made_named, made_of}
 use Rattle.style_rules.specs.Parts.{IsOfStyle, has_name, part_of}
 use Rattle.rsvp_base.specs.Styles.{part_unit, name_of}
 use Rattle.style_rules.proofs.StyleLaws.{unit_name}
-use Rattle.laws_inputs.specs.RouterRules.Asking.{Asker, Taking, book_refuses, has_room, lost, names_that_match, put_tested, put_unit, table_with, take_unit, take_units, tell_lost}
-use Rattle.laws_inputs.specs.RouterRules.Facts.{Facts, Resvs}
-use Rattle.laws_inputs.specs.RouterRules.Known.{named_as}
-use Rattle.laws_inputs.specs.RouterRules.NodeConfig.{NodeConfig}
-use Rattle.laws_inputs.proofs.Knowing.{named_told}
+use Rattle.router_rules.specs.Asking.{Asker, Taking, book_refuses, has_room, lost, names_that_match, put_tested, put_unit, table_with, take_unit, take_units, tell_lost}
+use Rattle.router_rules.specs.Facts.{Facts, Resvs}
+use Rattle.router_rules.specs.Known.{named_as}
+use Rattle.router_rules.specs.NodeConfig.{NodeConfig}
+use Rattle.laws_bounds.proofs.Knowing.{named_told}
 
 module _ (p : NodeConfig) (o : Asker) (f : Facts) (all : Names) (P : Resvs → Type 0) where
   -- what a unit keeps that has room and is not refused

@@ -26,22 +26,22 @@ use Rattle.rsvp_messages.specs.declared.message.ResvErrMsg.{ResvErrMsg}
 use Rattle.rsvp_messages.specs.Proper.{AreBothOrNeither, IsProper, IsProperBlameOf, WhereThere}
 use Rattle.rsvp_messages.specs.RsvpObjects.ObjectFields.AdspecLaws.{IsAdspec}
 use Rattle.style_rules.specs.declared.target.Target.TheVariants as target
-use Rattle.laws_inputs.specs.RouterRules.Act.{act, act_spelt, is_mine}
-use Rattle.laws_inputs.specs.RouterRules.Bounds.{AreDue, IsTarget, LivesUpTo}
-use Rattle.laws_inputs.specs.RouterRules.Errors.{blamed_senders, blockade_of, is_admission, walled_by, walls_after, walls_with}
-use Rattle.laws_inputs.specs.RouterRules.Facts.{Blockade, Facts, PathState, Paths, SenderKey, Walls, sender_keys}
+use Rattle.router_rules.specs.Act.{act, act_spelt, is_mine}
+use Rattle.router_rules.specs.Bounds.{AreDue, IsTarget, LivesUpTo}
+use Rattle.router_rules.specs.Errors.{blamed_senders, blockade_of, is_admission, walled_by, walls_after, walls_with}
+use Rattle.router_rules.specs.Facts.{Blockade, Facts, PathState, Paths, SenderKey, Walls, sender_keys}
 use Rattle.style_rules.specs.Targets.{WallKey, wall_keys}
-use Rattle.laws_inputs.specs.RouterRules.Forgetting.{counted, settle}
-use Rattle.laws_inputs.specs.RouterRules.Inputs.{Input, Call, Wait, Clear, Came, Moved, Spelt, Unspelt}
-use Rattle.laws_inputs.specs.RouterRules.Paths.{is_path_by, learn, learn_inward, learnt, path_state, tear_path, torn_path}
-use Rattle.laws_inputs.specs.RouterRules.NodeConfig.{NodeConfig, comes_in, period, wall_lifetime}
-use Rattle.laws_inputs.specs.RouterRules.Waiting.{next_due}
-use Rattle.laws_inputs.proofs.Leaving.{countdowns_settle, waiting_leaves_the_living}
-use Rattle.laws_inputs.proofs.Lists.{some_is, some_same}
-use Rattle.laws_inputs.proofs.Telling.{errors_and_walls}
-use Rattle.laws_inputs.specs.Sources.{CameOnTree}
-use Rattle.laws_inputs.specs.RouterRules.Steps.{IsFit, clock_after, facts_then}
-use Rattle.laws_inputs.proofs.Stepping.{quiet_due, stands_settled}
+use Rattle.router_rules.specs.Forgetting.{counted, settle}
+use Rattle.router_rules.specs.Inputs.{Input, Call, Wait, Clear, Came, Moved, Spelt, Unspelt}
+use Rattle.router_rules.specs.Paths.{is_path_by, learn, learn_inward, learnt, path_state, tear_path, torn_path}
+use Rattle.router_rules.specs.NodeConfig.{NodeConfig, comes_in, period, wall_lifetime}
+use Rattle.router_rules.specs.Waiting.{next_due}
+use Rattle.laws_bounds.proofs.Leaving.{countdowns_settle, waiting_leaves_the_living}
+use Rattle.laws_bounds.proofs.Lists.{some_is, some_same}
+use Rattle.laws_bounds.proofs.Telling.{errors_and_walls}
+use Rattle.laws_bounds.specs.Sources.{CameOnTree}
+use Rattle.router_rules.specs.Steps.{IsFit, clock_after, facts_then}
+use Rattle.laws_bounds.proofs.Stepping.{quiet_due, stands_settled}
 
 -- ---- paths
 -- what stands after an input lives longer than its clock

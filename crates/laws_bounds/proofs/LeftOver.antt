@@ -11,18 +11,18 @@ use Rattle.rsvp_base.specs.Table.{get, put_in, size}
 use Rattle.rsvp_base.proofs.SessionRoom.{put_room}
 use Rattle.rsvp_base.proofs.Tables.{got_put_in}
 use Rattle.style_rules.specs.Lines.{LineKey}
-use Rattle.laws_inputs.specs.RouterRules.declared.answers.StaleErr.{StaleErr}
-use Rattle.laws_inputs.specs.RouterRules.Books.{book, fits, refused}
-use Rattle.laws_inputs.specs.RouterRules.Bounds.{AreAlive, AreBooked, AreShaped, AreWithinLimits, IsPathShaped, IsWallShaped, IsWithinBounds, LivesUpTo}
-use Rattle.laws_inputs.specs.RouterRules.Calls.{act_stale, entry_of, needs, stale_refusal, unless, with_left}
-use Rattle.laws_inputs.specs.RouterRules.Facts.{Blockade, Facts, PathState, ResvState, SenderKey, resvs_of, sender_keys, with_resvs}
+use Rattle.router_rules.specs.declared.answers.StaleErr.{StaleErr}
+use Rattle.router_rules.specs.Books.{book, fits, refused}
+use Rattle.router_rules.specs.Bounds.{AreAlive, AreBooked, AreShaped, AreWithinLimits, IsPathShaped, IsWallShaped, IsWithinBounds, LivesUpTo}
+use Rattle.router_rules.specs.Calls.{act_stale, entry_of, needs, stale_refusal, unless, with_left}
+use Rattle.router_rules.specs.Facts.{Blockade, Facts, PathState, ResvState, SenderKey, resvs_of, sender_keys, with_resvs}
 use Rattle.style_rules.specs.Targets.{WallKey, wall_keys}
-use Rattle.laws_inputs.specs.RouterRules.Forgetting.{forget}
-use Rattle.laws_inputs.specs.RouterRules.Inputs.{Stale, StalePath, StaleResv, StaleWall}
-use Rattle.laws_inputs.specs.RouterRules.NodeConfig.{NodeConfig, lifetime, period, wall_lifetime}
-use Rattle.laws_inputs.specs.RouterRules.Rule.{settled}
-use Rattle.laws_inputs.proofs.RouterRules.Fronting.{fronts_are_the_rule}
-use Rattle.laws_inputs.specs.RouterRules.Steps.{IsFitStale}
+use Rattle.router_rules.specs.Forgetting.{forget}
+use Rattle.router_rules.specs.Inputs.{Stale, StalePath, StaleResv, StaleWall}
+use Rattle.router_rules.specs.NodeConfig.{NodeConfig, lifetime, period, wall_lifetime}
+use Rattle.router_rules.specs.Rule.{settled}
+use Rattle.router_rules.proofs.Fronting.{fronts_are_the_rule}
+use Rattle.router_rules.specs.Steps.{IsFitStale}
 use Rattle.laws_bounds.specs.BoundLaws.{LeftOverFactsAreWithinBounds}
 use Rattle.laws_bounds.proofs.Keeping.{due_settled}
 use Rattle.laws_bounds.proofs.Reserving.{AreResvsWithin, forgotten_within, of_bounds, placed_within, replaced_within, same_resvs}

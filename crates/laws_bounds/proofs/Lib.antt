@@ -1,3 +1,30 @@
+pub mod Lists
+pub mod Once
+pub mod Ordering
+pub mod Tests
+pub mod Knowing
+pub mod Offering
+pub mod Requesting
+pub mod Leaving
+pub mod Ruling
+pub mod Sending
+pub mod Wishing
+pub mod Flagging
+pub mod Asks
+pub mod Rooms
+pub mod Blame
+pub mod Taking
+pub mod Telling
+pub mod Erring
+pub mod Answering
+pub mod Receiving
+pub mod Styling
+pub mod Wholes
+pub mod Quiet
+pub mod Calling
+pub mod Framing
+pub mod Stepping
+pub use Rattle.router_rules.proofs as RouterRules
 pub mod Shrinking
 pub mod Putting
 pub mod Folding
@@ -7,4 +34,7 @@ pub mod LocalFacts
 pub mod Bounded
 pub mod LeftOver
 pub mod Wording
-pub use Rattle.laws_inputs.proofs as LawsInputs
+pub mod Lengths
+pub mod Sizes
+pub mod Changes
+pub mod AllSends

@@ -22,19 +22,19 @@ use Rattle.rsvp_messages.specs.Units.{only}
 use Rattle.style_rules.specs.CutLaws.{name_some}
 use Rattle.style_rules.specs.Parts.{has_name}
 use Rattle.style_rules.proofs.StyleLaws.{fixed_parts, shared_parts}
-use Rattle.laws_inputs.specs.RouterRules.Act.{act}
-use Rattle.laws_inputs.specs.RouterRules.Bounds.{IsWantShape, IsWantShaped}
-use Rattle.laws_inputs.specs.RouterRules.Calls.{SendersOf, call_refusal, needs, unless, wanted}
-use Rattle.laws_inputs.specs.RouterRules.Facts.{Facts, SenderKey, Want, WantKey, Wants, sender_keys, want_keys, wants_in}
-use Rattle.laws_inputs.specs.RouterRules.Inputs.{Input, Call, Wait, Clear, Came, Moved, SendAs, DropAs, AdvertAs, WantAs, QuitAll}
-use Rattle.laws_inputs.specs.RouterRules.NodeConfig.{NodeConfig, is_own, is_session}
-use Rattle.laws_inputs.specs.RouterRules.Requests.{is_style}
-use Rattle.laws_inputs.proofs.Lists.{got_with_rows, to_values}
-use Rattle.laws_inputs.proofs.Rooms.{room_tells}
-use Rattle.laws_inputs.proofs.Tests.{style_told}
-use Rattle.laws_inputs.specs.Frames.{AreSameButMarks}
-use Rattle.laws_inputs.proofs.Framing.{act_senders, act_wants}
-use Rattle.laws_inputs.specs.RouterRules.Steps.{IsFit, IsFitList}
+use Rattle.router_rules.specs.Act.{act}
+use Rattle.router_rules.specs.Bounds.{IsWantShape, IsWantShaped}
+use Rattle.router_rules.specs.Calls.{SendersOf, call_refusal, needs, unless, wanted}
+use Rattle.router_rules.specs.Facts.{Facts, SenderKey, Want, WantKey, Wants, sender_keys, want_keys, wants_in}
+use Rattle.router_rules.specs.Inputs.{Input, Call, Wait, Clear, Came, Moved, SendAs, DropAs, AdvertAs, WantAs, QuitAll}
+use Rattle.router_rules.specs.NodeConfig.{NodeConfig, is_own, is_session}
+use Rattle.router_rules.specs.Requests.{is_style}
+use Rattle.laws_bounds.proofs.Lists.{got_with_rows, to_values}
+use Rattle.laws_bounds.proofs.Rooms.{room_tells}
+use Rattle.laws_bounds.proofs.Tests.{style_told}
+use Rattle.laws_bounds.specs.Frames.{AreSameButMarks}
+use Rattle.laws_bounds.proofs.Framing.{act_senders, act_wants}
+use Rattle.router_rules.specs.Steps.{IsFit, IsFitList}
 use Rattle.laws_bounds.proofs.Keeping.{fewer_rows}
 
 -- ---- a call that is refused changes nothing

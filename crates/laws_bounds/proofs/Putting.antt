@@ -25,13 +25,13 @@ use Rattle.style_rules.specs.Parts.{IsPartAtMost, has_name, part_charge, part_jo
 use Rattle.style_rules.proofs.Books.{book_below, held_below}
 use Rattle.style_rules.proofs.Merges.{get-merge_of, in_those}
 use Rattle.style_rules.proofs.Room.{within_told}
-use Rattle.laws_inputs.specs.RouterRules.Books.{book, fits, lines, lines_of, refused}
-use Rattle.laws_inputs.specs.RouterRules.Bounds.{AreBooked}
-use Rattle.laws_inputs.specs.RouterRules.Calls.{entry_of}
-use Rattle.laws_inputs.specs.RouterRules.Facts.{Facts, Resvs, ResvState, resvs_of, with_resvs}
-use Rattle.laws_inputs.specs.RouterRules.NodeConfig.{NodeConfig}
-use Rattle.laws_inputs.proofs.Leaving.{table_other, table_put}
-use Rattle.laws_inputs.proofs.Requesting.{lines_told, to_lines}
+use Rattle.router_rules.specs.Books.{book, fits, lines, lines_of, refused}
+use Rattle.router_rules.specs.Bounds.{AreBooked}
+use Rattle.router_rules.specs.Calls.{entry_of}
+use Rattle.router_rules.specs.Facts.{Facts, Resvs, ResvState, resvs_of, with_resvs}
+use Rattle.router_rules.specs.NodeConfig.{NodeConfig}
+use Rattle.laws_bounds.proofs.Leaving.{table_other, table_put}
+use Rattle.laws_bounds.proofs.Requesting.{lines_told, to_lines}
 
 -- ---- two styles are one, or are not
 pub style_same : (a b : StyleKind) → (a ≡ b) ⊎ (a ≡ b → ⊥)

@@ -19,20 +19,20 @@ use Rattle.rsvp_messages.specs.Units.{AskedUnit, ask_style, asked_units, tear_na
 use Rattle.style_rules.specs.Limits.{IsWithinLimits}
 use Rattle.style_rules.specs.Lines.{LineKey}
 use Rattle.style_rules.specs.Parts.{has_name}
-use Rattle.laws_inputs.specs.RouterRules.Act.{act, act_spelt, is_mine}
-use Rattle.laws_inputs.specs.RouterRules.Asking.{Asker, act_resv_tear, asker_of, key_at, matched, nothing_taken, resv_state, stays, style_conflict, taking_of}
-use Rattle.laws_inputs.specs.RouterRules.Books.{book, fits, lines_of, refused}
-use Rattle.laws_inputs.specs.RouterRules.Bounds.{AreBooked, IsShaped, IsWithinBounds, LivesUpTo}
-use Rattle.laws_inputs.specs.RouterRules.Calls.{entry_of}
-use Rattle.laws_inputs.specs.RouterRules.Facts.{Facts, Resvs, ResvState, ResvTables, no_resvs, resvs_of, with_resvs}
-use Rattle.laws_inputs.specs.RouterRules.Forgetting.{forget, is_lost}
-use Rattle.laws_inputs.specs.RouterRules.Inputs.{Input, Call, Wait, Clear, Came, Moved, Spelt, Unspelt}
-use Rattle.laws_inputs.specs.RouterRules.Known.{known}
-use Rattle.laws_inputs.specs.RouterRules.NodeConfig.{NodeConfig, goes_out, lifetime, period}
-use Rattle.laws_inputs.specs.RuleLaws.{IsLeft}
-use Rattle.laws_inputs.proofs.Leaving.{as_it_was, got_forget, left_told, table_other, waiting_leaves_the_living}
-use Rattle.laws_inputs.proofs.Receiving.{resv_tears_by_names}
-use Rattle.laws_inputs.specs.RouterRules.Steps.{AreFewer, IsFit, IsLeftOf, clock_after, facts_then}
+use Rattle.router_rules.specs.Act.{act, act_spelt, is_mine}
+use Rattle.router_rules.specs.Asking.{Asker, act_resv_tear, asker_of, key_at, matched, nothing_taken, resv_state, stays, style_conflict, taking_of}
+use Rattle.router_rules.specs.Books.{book, fits, lines_of, refused}
+use Rattle.router_rules.specs.Bounds.{AreBooked, IsShaped, IsWithinBounds, LivesUpTo}
+use Rattle.router_rules.specs.Calls.{entry_of}
+use Rattle.router_rules.specs.Facts.{Facts, Resvs, ResvState, ResvTables, no_resvs, resvs_of, with_resvs}
+use Rattle.router_rules.specs.Forgetting.{forget, is_lost}
+use Rattle.router_rules.specs.Inputs.{Input, Call, Wait, Clear, Came, Moved, Spelt, Unspelt}
+use Rattle.router_rules.specs.Known.{known}
+use Rattle.router_rules.specs.NodeConfig.{NodeConfig, goes_out, lifetime, period}
+use Rattle.laws_bounds.specs.RuleLaws.{IsLeft}
+use Rattle.laws_bounds.proofs.Leaving.{as_it_was, got_forget, left_told, table_other, waiting_leaves_the_living}
+use Rattle.laws_bounds.proofs.Receiving.{resv_tears_by_names}
+use Rattle.router_rules.specs.Steps.{AreFewer, IsFit, IsLeftOf, clock_after, facts_then}
 use Rattle.laws_bounds.proofs.Folding.{Keeps, names_listed, unit_shape, units_keep}
 use Rattle.laws_bounds.proofs.Putting.{IsPut, put_booked, put_limits, put_source, style_same}
 use Rattle.laws_bounds.proofs.Shrinking.{fewer_booked, fewer_limits, fewer_shapes}

@@ -19,12 +19,12 @@ use Rattle.style_rules.specs.Parts.{IsPartAtMost}
 use Rattle.style_rules.proofs.Books.{book_below, held_at_end_below, under_at_end}
 use Rattle.style_rules.proofs.Room.{within_below}
 use Rattle.style_rules.proofs.StyleLaws.{within_style, within_unit}
-use Rattle.laws_inputs.specs.RouterRules.Books.{book, line_of, lines, lines_of}
-use Rattle.laws_inputs.specs.RouterRules.Bounds.{AreBooked}
-use Rattle.laws_inputs.specs.RouterRules.Facts.{Facts, Resvs, ResvState, resvs_of}
-use Rattle.laws_inputs.specs.RouterRules.NodeConfig.{NodeConfig}
-use Rattle.laws_inputs.proofs.Requesting.{lines_told, to_lines}
-use Rattle.laws_inputs.specs.RouterRules.Steps.{AreFewer, IsLeftOf}
+use Rattle.router_rules.specs.Books.{book, line_of, lines, lines_of}
+use Rattle.router_rules.specs.Bounds.{AreBooked}
+use Rattle.router_rules.specs.Facts.{Facts, Resvs, ResvState, resvs_of}
+use Rattle.router_rules.specs.NodeConfig.{NodeConfig}
+use Rattle.laws_bounds.proofs.Requesting.{lines_told, to_lines}
+use Rattle.router_rules.specs.Steps.{AreFewer, IsLeftOf}
 use Rattle.laws_bounds.specs.BoundLaws.{FewerFactsSmallerBook, ResvsAreShaped}
 
 -- ---- lines of a table

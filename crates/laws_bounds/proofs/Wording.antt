@@ -5,7 +5,7 @@ use Rattle.std.proofs.lemmas.Bool.{ltb-true}
 use Rattle.std.specs.List.{flat_map, list_any}
 use Rattle.std.specs.Option.{option_map}
 use Rattle.std.specs.Ordering.{eq_by_cmp}
-use Rattle.laws_inputs.proofs.RouterRules.AdspecPath.Proper.{what_is_composed_can_be_written}
+use Rattle.router_rules.proofs.AdspecPath.Proper.{what_is_composed_can_be_written}
 use Rattle.rsvp_base.specs.declared.addr.Addr.{Addr}
 use Rattle.rsvp_base.specs.declared.iface.Iface.{Iface}
 use Rattle.rsvp_base.specs.declared.part.Part.{Part}
@@ -46,41 +46,41 @@ use Rattle.style_rules.proofs.Claims.{merge_keeps_the_style}
 use Rattle.style_rules.proofs.Folds.{all_keeps}
 use Rattle.style_rules.proofs.Merges.{get-table_at, in_those}
 use Rattle.style_rules.proofs.StyleLaws.{cut_of_style, fixed_parts, wild_parts}
-use Rattle.laws_inputs.specs.RouterRules.declared.answers.Heard.TheVariants as heard
-use Rattle.laws_inputs.specs.RouterRules.declared.answers.Why.TheVariants as why
-use Rattle.laws_inputs.specs.RouterRules.Act.{act, act_spelt, is_mine}
-use Rattle.laws_inputs.specs.RouterRules.Asking.{Asker, act_resv, ask_of, ask_of_part, asker_of, asked_of, flow_at, flows_by_sender, lost, matched, names_that_match, nothing_taken, refusal}
-use Rattle.laws_inputs.specs.RouterRules.Asking.{style_conflict, taking, taking_of, unmatched, Nobody, These, as_listed}
-use Rattle.laws_inputs.specs.RouterRules.Bounds.{IsWantShape, IsWantShaped, IsWithinBounds}
-use Rattle.laws_inputs.specs.RouterRules.Confirming.{confs_heard, confs_on}
-use Rattle.laws_inputs.specs.RouterRules.Errors.{blamed, errors_on, lane_of, path_err, path_err_on, replied, reply_to}
-use Rattle.laws_inputs.specs.RouterRules.Facts.{Facts, PathState, ResvState, Want, WantKey, resvs_of}
-use Rattle.laws_inputs.specs.RouterRules.Inputs.{Asked, Call, Came, Clear, ConfSend, ErrSend, Input, Moved, Send, Spelt, Unspelt, Wait}
-use Rattle.laws_inputs.specs.RouterRules.Known.{Lane, known, named_as, names_via, names_via_where, via}
-use Rattle.laws_inputs.specs.RouterRules.NodeConfig.{NodeConfig, goes_out, is_own}
-use Rattle.laws_inputs.specs.RouterRules.Offers.{advert_by, advert_of, own_advert}
-use Rattle.laws_inputs.specs.RouterRules.declared.advert.Advert.{Advert}
-use Rattle.laws_inputs.specs.RouterRules.Requests.{requests, toward, want_part}
-use Rattle.laws_inputs.specs.RouterRules.Rule.{settled}
-use Rattle.laws_inputs.specs.RouterRules.Sends.{conf_for, confirmed, error_message, goes_on, gone_names, tear_of, told_at, without_scope}
-use Rattle.laws_inputs.specs.FactLaws.{IsResvRequest, IsWantRequest}
-use Rattle.laws_inputs.specs.SendLaws.{IsConf, IsError, IsPath, IsPathTear, IsResv, IsResvTear}
-use Rattle.laws_inputs.proofs.Lists.{passed, some_same}
-use Rattle.laws_inputs.proofs.Requesting.{request_told, requests_and_toward}
-use Rattle.laws_inputs.proofs.Ruling.{rule_in_parts}
-use Rattle.laws_inputs.specs.AskLaws.{IsBookRefusal, IsLoss, IsTaken}
-use Rattle.laws_inputs.specs.ErrorLaws.{IsPathReply, IsResvReply}
-use Rattle.laws_inputs.proofs.Answering.{faults_by_hint}
-use Rattle.laws_inputs.proofs.Receiving.{conf_told}
-use Rattle.laws_inputs.proofs.Erring.{errors_once_each}
-use Rattle.laws_inputs.proofs.Wholes.{takes_told, errors_told as unit_errors_told}
-use Rattle.laws_inputs.specs.Sources.{IsLocalOffer, IsPathOffer}
-use Rattle.laws_inputs.specs.RouterRules.Steps.{IsFit, clock_after, facts_then, sent_then}
-use Rattle.laws_inputs.proofs.Stepping.{offer_of, offer_source, send_told}
+use Rattle.router_rules.specs.declared.answers.Heard.TheVariants as heard
+use Rattle.router_rules.specs.declared.answers.Why.TheVariants as why
+use Rattle.router_rules.specs.Act.{act, act_spelt, is_mine}
+use Rattle.router_rules.specs.Asking.{Asker, act_resv, ask_of, ask_of_part, asker_of, asked_of, flow_at, flows_by_sender, lost, matched, names_that_match, nothing_taken, refusal}
+use Rattle.router_rules.specs.Asking.{style_conflict, taking, taking_of, unmatched, Nobody, These, as_listed}
+use Rattle.router_rules.specs.Bounds.{IsWantShape, IsWantShaped, IsWithinBounds}
+use Rattle.router_rules.specs.Confirming.{confs_heard, confs_on}
+use Rattle.router_rules.specs.Errors.{blamed, errors_on, lane_of, path_err, path_err_on, replied, reply_to}
+use Rattle.router_rules.specs.Facts.{Facts, PathState, ResvState, Want, WantKey, resvs_of}
+use Rattle.router_rules.specs.Inputs.{Asked, Call, Came, Clear, ConfSend, ErrSend, Input, Moved, Send, Spelt, Unspelt, Wait}
+use Rattle.router_rules.specs.Known.{Lane, known, named_as, names_via, names_via_where, via}
+use Rattle.router_rules.specs.NodeConfig.{NodeConfig, goes_out, is_own}
+use Rattle.router_rules.specs.Offers.{advert_by, advert_of, own_advert}
+use Rattle.router_rules.specs.declared.advert.Advert.{Advert}
+use Rattle.router_rules.specs.Requests.{requests, toward, want_part}
+use Rattle.router_rules.specs.Rule.{settled}
+use Rattle.router_rules.specs.Sends.{conf_for, confirmed, error_message, goes_on, gone_names, tear_of, told_at, without_scope}
+use Rattle.laws_bounds.specs.FactLaws.{IsResvRequest, IsWantRequest}
+use Rattle.laws_bounds.specs.SendLaws.{IsConf, IsError, IsPath, IsPathTear, IsResv, IsResvTear}
+use Rattle.laws_bounds.proofs.Lists.{passed, some_same}
+use Rattle.laws_bounds.proofs.Requesting.{request_told, requests_and_toward}
+use Rattle.laws_bounds.proofs.Ruling.{rule_in_parts}
+use Rattle.laws_bounds.specs.AskLaws.{IsBookRefusal, IsLoss, IsTaken}
+use Rattle.laws_bounds.specs.ErrorLaws.{IsPathReply, IsResvReply}
+use Rattle.laws_bounds.proofs.Answering.{faults_by_hint}
+use Rattle.laws_bounds.proofs.Receiving.{conf_told}
+use Rattle.laws_bounds.proofs.Erring.{errors_once_each}
+use Rattle.laws_bounds.proofs.Wholes.{takes_told, errors_told as unit_errors_told}
+use Rattle.laws_bounds.specs.Sources.{IsLocalOffer, IsPathOffer}
+use Rattle.router_rules.specs.Steps.{IsFit, clock_after, facts_then, sent_then}
+use Rattle.laws_bounds.proofs.Stepping.{offer_of, offer_source, send_told}
 use Rattle.laws_bounds.specs.ProperLaws.{WhatIsSentIsProper}
 use Rattle.laws_bounds.proofs.Bounded.{kept_within, same_node}
 use Rattle.laws_bounds.proofs.Folding.{IsUnitShape, names_listed, unit_shape}
-use Rattle.laws_inputs.proofs.Blame.{never_nobody, one_list, sent_listing, these_are}
+use Rattle.laws_bounds.proofs.Blame.{never_nobody, one_list, sent_listing, these_are}
 
 -- ---- names of a style
 scope_of : (names : Names) → ((x : Sender) → has names x ≡ true → name_of Wild x ≡ x) → IsScope names

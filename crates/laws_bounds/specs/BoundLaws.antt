@@ -7,13 +7,13 @@ use Rattle.style_rules.specs.Limits.{IsWithinLimits}
 use Rattle.style_rules.specs.Lines.{LineKey, held}
 use Rattle.rsvp_base.specs.declared.entry_key.EntryKey.{EntryKey}
 use Rattle.style_rules.specs.Parts.{IsPartAtMost}
-use Rattle.laws_inputs.specs.RouterRules.Books.{book, lines_of}
-use Rattle.laws_inputs.specs.RouterRules.Bounds.{AreBooked, IsShaped, IsWithinBounds}
-use Rattle.laws_inputs.specs.RouterRules.Facts.{Facts, ResvState, resvs_of}
-use Rattle.laws_inputs.specs.RouterRules.Inputs.{Input, Stale}
-use Rattle.laws_inputs.specs.RouterRules.NodeConfig.{NodeConfig}
-use Rattle.laws_inputs.specs.RouterRules.Rule.{facts_with}
-use Rattle.laws_inputs.specs.RouterRules.Steps.{facts_then, AreFewer, IsSameNode, IsFit, clock_after, IsFitStale}
+use Rattle.router_rules.specs.Books.{book, lines_of}
+use Rattle.router_rules.specs.Bounds.{AreBooked, IsShaped, IsWithinBounds}
+use Rattle.router_rules.specs.Facts.{Facts, ResvState, resvs_of}
+use Rattle.router_rules.specs.Inputs.{Input, Stale}
+use Rattle.router_rules.specs.NodeConfig.{NodeConfig}
+use Rattle.router_rules.specs.Rule.{facts_with}
+use Rattle.router_rules.specs.Steps.{facts_then, AreFewer, IsSameNode, IsFit, clock_after, IsFitStale}
 
 -- ---- fewer facts, smaller book
 abbrev pub ResvsAreShaped : NodeConfig → Facts → Type 0

@@ -2,11 +2,11 @@
 use Rattle.std.specs.Prelude.{ℕ}
 use Rattle.rsvp_base.specs.Members.{In}
 use Rattle.rsvp_messages.specs.Proper.{IsProper}
-use Rattle.laws_inputs.specs.RouterRules.Bounds.{IsWithinBounds}
-use Rattle.laws_inputs.specs.RouterRules.Facts.{Facts}
-use Rattle.laws_inputs.specs.RouterRules.Inputs.{Input, Send}
-use Rattle.laws_inputs.specs.RouterRules.NodeConfig.{NodeConfig}
-use Rattle.laws_inputs.specs.RouterRules.Steps.{IsFit, IsSameNode, clock_after, sent_then}
+use Rattle.router_rules.specs.Bounds.{IsWithinBounds}
+use Rattle.router_rules.specs.Facts.{Facts}
+use Rattle.router_rules.specs.Inputs.{Input, Send}
+use Rattle.router_rules.specs.NodeConfig.{NodeConfig}
+use Rattle.router_rules.specs.Steps.{IsFit, IsSameNode, clock_after, sent_then}
 
 -- a node within bounds to which something fit came sends proper messages
 abbrev pub WhatIsSentIsProper : Type 0

@@ -13,8 +13,8 @@ use Rattle.network_model.specs.RouterRules.Facts.{Facts}
 use Rattle.network_model.specs.RouterRules.Inputs.{Arrival, Change, Input, Wait, Came, Send}
 use Rattle.network_model.specs.RouterRules.NodeConfig.{NodeConfig}
 use Rattle.network_model.specs.RouterRules.Rule.{Outcome, rule, settled}
-use Rattle.laws_steps.specs.LawsBounds.LawsInputs.SendLaws.{IsPathTear, IsResvTear, IsError, IsConf, IsPath, IsResv}
-use Rattle.laws_steps.proofs.LawsBounds.LawsInputs.Sending.{sends_are_of_six_kinds}
+use Rattle.laws_steps.specs.LawsBounds.SendLaws.{IsPathTear, IsResvTear, IsError, IsConf, IsPath, IsResv}
+use Rattle.laws_steps.proofs.LawsBounds.Sending.{sends_are_of_six_kinds}
 use Rattle.tree_model.specs.Networks.{iface_of}
 use Rattle.laws_steps.proofs.Counting.{reached}
 use Rattle.network_model.specs.Events.{pass, half, halves, a_round, rounds}

@@ -28,17 +28,17 @@ use Rattle.network_model.specs.RouterRules.Known.{known}
 use Rattle.network_model.specs.RouterRules.NodeConfig.{NodeConfig, addr_of as own_of, goes_out, is_own, own}
 use Rattle.network_model.specs.RouterRules.Rule.{settled}
 use Rattle.network_model.specs.RouterRules.Sends.{error_message, error_send}
-use Rattle.laws_steps.proofs.LawsBounds.LawsInputs.Blame.{sent_listing}
-use Rattle.laws_steps.specs.LawsBounds.LawsInputs.FactLaws.{ComesBy}
-use Rattle.laws_steps.specs.LawsBounds.LawsInputs.SendLaws.{IsSend}
-use Rattle.laws_steps.proofs.LawsBounds.LawsInputs.Lists.{some_same}
-use Rattle.laws_steps.specs.LawsBounds.LawsInputs.AskLaws.{IsLoss, IsBookRefusal}
-use Rattle.laws_steps.specs.LawsBounds.LawsInputs.ErrorLaws.{IsPathReply, IsResvReply, errors_with, walls_set}
-use Rattle.laws_steps.proofs.LawsBounds.LawsInputs.Answering.{faults_by_hint}
-use Rattle.laws_steps.proofs.LawsBounds.LawsInputs.Erring.{errors_once_each, resv_errs_by_tests}
-use Rattle.laws_steps.proofs.LawsBounds.LawsInputs.Wholes.{units_in_full}
+use Rattle.laws_steps.proofs.LawsBounds.Blame.{sent_listing}
+use Rattle.laws_steps.specs.LawsBounds.FactLaws.{ComesBy}
+use Rattle.laws_steps.specs.LawsBounds.SendLaws.{IsSend}
+use Rattle.laws_steps.proofs.LawsBounds.Lists.{some_same}
+use Rattle.laws_steps.specs.LawsBounds.AskLaws.{IsLoss, IsBookRefusal}
+use Rattle.laws_steps.specs.LawsBounds.ErrorLaws.{IsPathReply, IsResvReply, errors_with, walls_set}
+use Rattle.laws_steps.proofs.LawsBounds.Answering.{faults_by_hint}
+use Rattle.laws_steps.proofs.LawsBounds.Erring.{errors_once_each, resv_errs_by_tests}
+use Rattle.laws_steps.proofs.LawsBounds.Wholes.{units_in_full}
 use Rattle.network_model.specs.RouterRules.Steps.{sent_then}
-use Rattle.laws_steps.proofs.LawsBounds.LawsInputs.Stepping.{send_told}
+use Rattle.laws_steps.proofs.LawsBounds.Stepping.{send_told}
 use Rattle.tree_model.specs.Goals.{addr_of}
 use Rattle.tree_model.specs.declared.hops.End.{End}
 use Rattle.tree_model.specs.Networks.{end_at, ends_of}

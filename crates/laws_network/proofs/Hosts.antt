@@ -22,7 +22,7 @@ use Rattle.rsvp_base.proofs.Members.{in_any, in_append, in_each, in_filter, to_e
 use Rattle.rsvp_base.proofs.Tables.{get-without, got_put_in, got_without, none_above, tied_same, tied_self}
 use Rattle.calm_rounds.specs.Hold.{Visited}
 use Rattle.calm_rounds.specs.Machine.{run}
-use Rattle.laws_steps.proofs.LawsBounds.LawsInputs.Tests.{addr_told}
+use Rattle.laws_steps.proofs.LawsBounds.Tests.{addr_told}
 use Rattle.network_model.specs.RouterRules.declared.answers.LocalErr.{LocalErr}
 use Rattle.network_model.specs.RouterRules.declared.answers.LocalErr.TheVariants as local
 use Rattle.network_model.specs.RouterRules.declared.answers.StaleErr.{StaleErr}
@@ -61,7 +61,7 @@ use Rattle.laws_network.proofs.Keeping.{ends_same}
 use Rattle.laws_network.proofs.Known.{has_some, of_some}
 use Rattle.laws_network.proofs.Runs.{each_world_of_a_run_is_within_bounds, visited_then, pieces_calm, passes_calm, rounds_calm, place_calm, no_time}
 use Rattle.laws_network.proofs.Standing.{place_in}
-use Rattle.laws_steps.specs.LawsBounds.LawsInputs.Frames.{on_senders}
+use Rattle.laws_steps.specs.LawsBounds.Frames.{on_senders}
 
 -- ---- the node that has an address
 AreApart : List End → Type 0

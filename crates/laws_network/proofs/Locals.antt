@@ -4,7 +4,7 @@ use Rattle.std.proofs.Common.{◌≡◌, ℕ, suc, ◌+◌, List, [], ◌∷◌,
 use Rattle.std.specs.Prelude.{slice_get, is_some, map as each, ◌++◌}
 use Rattle.rsvp_base.specs.Table.{get, keys, changed, changed_rows}
 use Rattle.rsvp_base.proofs.Tables.{same_table, get-changed, then_do}
-use Rattle.laws_steps.specs.LawsBounds.LawsInputs.RuleLaws.{IsWant}
+use Rattle.laws_steps.specs.LawsBounds.RuleLaws.{IsWant}
 use Rattle.network_model.specs.RouterRules.Steps.{is_calm, node_step}
 use Rattle.laws_steps.proofs.Framing.{calm_steps_keep_the_locals}
 use Rattle.network_model.specs.RouterRules.Facts.{Facts, WantKey, Want, Wants, want_keys}
@@ -16,7 +16,7 @@ use Rattle.network_model.specs.Steps.{Step, is_quiet, ms_of, input_at, outcome, 
 use Rattle.network_model.specs.Worlds.{World, config_of}
 use Rattle.network_model.proofs.Quiet.{IsWaited, IsCame, FollowsRule, input_found, outcome_quiet}
 use Rattle.network_model.proofs.Stepping.{facts_after_found, facts_after_made}
-use Rattle.laws_steps.specs.LawsBounds.LawsInputs.Frames.{AreSameButMarks}
+use Rattle.laws_steps.specs.LawsBounds.Frames.{AreSameButMarks}
 
 -- ---- wants without their marks
 clear : WantKey → Want → Option Want

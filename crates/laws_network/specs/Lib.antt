@@ -7,6 +7,6 @@ pub mod Example
 pub mod Beginning
 pub mod Runs
 pub mod HowManySend
-pub use Rattle.laws_steps.specs.LawsBounds.LawsInputs.Sources
+pub use Rattle.laws_steps.specs.LawsBounds.Sources
 pub use Rattle.laws_steps.specs.PathLaws
 pub use Rattle.laws_steps.specs.SpeakingLaws

@@ -12,12 +12,12 @@ use Rattle.rsvp_messages.specs.declared.message.ResvMsg.{ResvMsg}
 use Rattle.rsvp_messages.specs.Units.{AskedUnit, ask_style, asked_units}
 use Rattle.style_rules.specs.Lines.{LineKey}
 use Rattle.style_rules.specs.Parts.{has_name}
-use Rattle.laws_inputs.specs.AskLaws.{IsOfUnit}
-use Rattle.laws_inputs.proofs.Framing.{act_paths, act_senders}
-use Rattle.laws_inputs.proofs.Wholes.{resvs_in_steps}
-use Rattle.laws_inputs.proofs.Leaving.{as_it_was}
-use Rattle.laws_inputs.proofs.Ruling.{rule_in_parts}
-use Rattle.laws_inputs.proofs.Tests.{addr_told}
+use Rattle.laws_bounds.specs.AskLaws.{IsOfUnit}
+use Rattle.laws_bounds.proofs.Framing.{act_paths, act_senders}
+use Rattle.laws_bounds.proofs.Wholes.{resvs_in_steps}
+use Rattle.laws_bounds.proofs.Leaving.{as_it_was}
+use Rattle.laws_bounds.proofs.Ruling.{rule_in_parts}
+use Rattle.laws_bounds.proofs.Tests.{addr_told}
 use Rattle.router_rules.specs.Act.{act, act_spelt, is_mine}
 use Rattle.router_rules.specs.Asking.{Taking, act_resv, key_at, matched, resv_state}
 use Rattle.router_rules.specs.Bounds.{IsWithinBounds}

@@ -31,15 +31,15 @@ use Rattle.flow_merge.specs.FlowOrder.{IsAtMost}
 use Rattle.calm_rounds.specs.Hold.{Visited}
 use Rattle.calm_rounds.specs.Machine.{Happens, run}
 use Rattle.calm_rounds.proofs.Holding.{visited_start}
-use Rattle.laws_inputs.specs.AskLaws.{IsTaken}
-use Rattle.laws_inputs.specs.SendLaws.{ArePartsOf, IsAskedOf, IsConf, IsError, IsPath, IsPathTear, IsResv, IsResvTear, IsSend}
-use Rattle.laws_inputs.proofs.Asks.{asks_of_parts, style_told}
-use Rattle.laws_inputs.proofs.Receiving.{conf_told}
-use Rattle.laws_inputs.proofs.Requesting.{books_and_lines}
-use Rattle.laws_inputs.proofs.Stepping.{send_told}
-use Rattle.laws_inputs.proofs.Tests.{addr_told}
-use Rattle.laws_inputs.proofs.Wholes.{units_in_full}
-use Rattle.laws_inputs.proofs.Wishing.{wishes_are_granted}
+use Rattle.laws_bounds.specs.AskLaws.{IsTaken}
+use Rattle.laws_bounds.specs.SendLaws.{ArePartsOf, IsAskedOf, IsConf, IsError, IsPath, IsPathTear, IsResv, IsResvTear, IsSend}
+use Rattle.laws_bounds.proofs.Asks.{asks_of_parts, style_told}
+use Rattle.laws_bounds.proofs.Receiving.{conf_told}
+use Rattle.laws_bounds.proofs.Requesting.{books_and_lines}
+use Rattle.laws_bounds.proofs.Stepping.{send_told}
+use Rattle.laws_bounds.proofs.Tests.{addr_told}
+use Rattle.laws_bounds.proofs.Wholes.{units_in_full}
+use Rattle.laws_bounds.proofs.Wishing.{wishes_are_granted}
 use Rattle.laws_bounds.proofs.Folding.{names_listed, unit_shape}
 use Rattle.router_rules.specs.Act.{act, act_spelt, is_mine}
 use Rattle.router_rules.specs.Asking.{Asker, act_resv, ask_of, asked_of, asker_of, matched, names_that_match, nothing_taken, style_conflict, taking, taking_of}

@@ -16,14 +16,14 @@ use Rattle.rsvp_messages.specs.declared.message.ResvErrMsg.{ResvErrMsg}
 use Rattle.rsvp_messages.specs.declared.message.ResvTearMsg.{ResvTearMsg}
 use Rattle.style_rules.specs.Targets.{WallKey}
 use Rattle.style_rules.proofs.Towards.{toward_above_meet, toward_source, toward_there}
-use Rattle.laws_inputs.specs.ErrorLaws.{errors_with, walls_set}
-use Rattle.laws_inputs.proofs.Erring.{resv_errs_by_tests}
-use Rattle.laws_inputs.proofs.Telling.{errors_and_walls}
-use Rattle.laws_inputs.proofs.Framing.{act_paths, act_wants}
-use Rattle.laws_inputs.proofs.Leaving.{waiting_leaves_the_living}
-use Rattle.laws_inputs.proofs.Ruling.{rule_in_parts}
-use Rattle.laws_inputs.proofs.Tests.{addr_told, addr_tested}
-use Rattle.laws_inputs.specs.FactLaws.{ComesBy}
+use Rattle.laws_bounds.specs.ErrorLaws.{errors_with, walls_set}
+use Rattle.laws_bounds.proofs.Erring.{resv_errs_by_tests}
+use Rattle.laws_bounds.proofs.Telling.{errors_and_walls}
+use Rattle.laws_bounds.proofs.Framing.{act_paths, act_wants}
+use Rattle.laws_bounds.proofs.Leaving.{waiting_leaves_the_living}
+use Rattle.laws_bounds.proofs.Ruling.{rule_in_parts}
+use Rattle.laws_bounds.proofs.Tests.{addr_told, addr_tested}
+use Rattle.laws_bounds.specs.FactLaws.{ComesBy}
 use Rattle.laws_steps.proofs.Blockading.{units_of_toward_do_not_depend_on_blockade}
 use Rattle.laws_steps.proofs.Erring.{an_error_changes_no_fact}
 use Rattle.laws_steps.proofs.Hopward.{why_a_resv_tear_is_sent}

@@ -22,9 +22,9 @@ use Rattle.rsvp_messages.specs.Units.{AskedUnit, ask_style, asked_units, fixed_u
 use Rattle.style_rules.specs.Lines.{LineKey, line_keys}
 use Rattle.tree_model.specs.Chains.{NoRepeats}
 use Rattle.laws_network.proofs.Hosts.{once_keys}
-use Rattle.laws_inputs.specs.AskLaws.{IsUnitAt, IsOfUnit}
-use Rattle.laws_inputs.proofs.Taking.{units_one_by_one}
-use Rattle.laws_inputs.proofs.Wholes.{resvs_in_steps, units_in_full}
+use Rattle.laws_bounds.specs.AskLaws.{IsUnitAt, IsOfUnit}
+use Rattle.laws_bounds.proofs.Taking.{units_one_by_one}
+use Rattle.laws_bounds.proofs.Wholes.{resvs_in_steps, units_in_full}
 use Rattle.router_rules.specs.Asking.{Asker, Taking, key_at, matched, nothing_taken, resv_state, style_conflict, take_unit, take_units, taking, taking_of}
 use Rattle.router_rules.specs.Facts.{Facts, ResvState, Resvs, resvs_of}
 use Rattle.router_rules.specs.Known.{known}

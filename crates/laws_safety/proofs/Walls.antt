@@ -23,8 +23,8 @@ use Rattle.style_rules.specs.declared.wall.Wall.{Wall}
 use Rattle.style_rules.specs.Targets.{WallKey}
 use Rattle.style_rules.specs.Toward.{IsOpenRequestOf, Request, is_walled}
 use Rattle.style_rules.proofs.Towards.{open_charge, open_most, toward_join, toward_there}
-use Rattle.laws_inputs.specs.FactLaws.{IsResvRequest, IsWantRequest}
-use Rattle.laws_inputs.proofs.Requesting.{requests_and_toward}
+use Rattle.laws_bounds.specs.FactLaws.{IsResvRequest, IsWantRequest}
+use Rattle.laws_bounds.proofs.Requesting.{requests_and_toward}
 use Rattle.router_rules.specs.Facts.{Blockade, Facts, Walls}
 use Rattle.router_rules.specs.Known.{Lane}
 use Rattle.router_rules.specs.NodeConfig.{NodeConfig}

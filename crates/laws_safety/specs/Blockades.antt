@@ -20,8 +20,8 @@ use Rattle.style_rules.specs.Parts.{part_join}
 use Rattle.style_rules.specs.Toward.{IsOpenRequestOf, IsRequestOf, Request, meet_at, open_of, parts_of, requests_at}
 use Rattle.style_rules.specs.declared.wall.Wall.{Wall}
 use Rattle.flow_merge.specs.FlowOrder.{IsAtMost}
-use Rattle.laws_inputs.specs.ErrorLaws.{walls_set}
-use Rattle.laws_inputs.specs.FactLaws.{ComesBy}
+use Rattle.laws_bounds.specs.ErrorLaws.{walls_set}
+use Rattle.laws_bounds.specs.FactLaws.{ComesBy}
 use Rattle.laws_steps.specs.ReservationLaws.{IsOfLane}
 use Rattle.router_rules.specs.Errors.{blockade_of, is_admission, walled_by}
 use Rattle.router_rules.specs.Facts.{Blockade, Facts}

@@ -12,7 +12,7 @@ use Rattle.rsvp_messages.specs.declared.message.ResvMsg.{ResvMsg}
 use Rattle.rsvp_messages.specs.Units.{AskedUnit, ask_style, asked_units}
 use Rattle.style_rules.specs.Lines.{LineKey}
 use Rattle.style_rules.specs.Parts.{part_of}
-use Rattle.laws_inputs.specs.AskLaws.{IsUnitAt, IsTried}
+use Rattle.laws_bounds.specs.AskLaws.{IsUnitAt, IsTried}
 use Rattle.router_rules.specs.declared.answers.LocalErr.{LocalErr}
 use Rattle.router_rules.specs.Asking.{Asker, Taking, asker_of, book_refuses, has_room, matched, names_that_match, nothing_taken, resv_state, style_conflict}
 use Rattle.router_rules.specs.Calls.{call_refusal}

@@ -24,7 +24,7 @@ use Rattle.router_rules.specs.NodeConfig.{NodeConfig}
 use Rattle.router_rules.specs.Offers.{Offer, own_offer, path_offer}
 use Rattle.router_rules.specs.Waiting.{act_wait}
 use Rattle.router_state.proofs.Knowing.{lanes_made, lanes_told}
-use Rattle.router_state.proofs.LawsInputs.Leaving.{forgetting_by_names, got_forget, waiting_leaves_the_living}
+use Rattle.router_state.proofs.LawsBounds.Leaving.{forgetting_by_names, got_forget, waiting_leaves_the_living}
 use Rattle.router_state.specs.State.{AreNamed}
 use Rattle.laws_sends.specs.SendsHere.{AreSameOf}
 use Rattle.laws_sends.specs.Told.{offered}

@@ -27,12 +27,12 @@ use Rattle.style_rules.specs.Parts.{part_charge}
 use Rattle.style_rules.proofs.Books.{book_below, held_at_end_below, under_at_end}
 use Rattle.style_rules.proofs.Room.{within_below, within_tested}
 use Rattle.style_rules.proofs.StyleLaws.{named_in}
-use Rattle.laws_bounds.specs.LawsInputs.RouterRules.Asking.{Asker, entry_at, has_room, key_at, resv_state, table_with}
-use Rattle.laws_bounds.specs.LawsInputs.RouterRules.Books.{book, line_of, lines, lines_of}
-use Rattle.laws_bounds.specs.LawsInputs.RouterRules.Facts.{Facts, Resvs, resvs_of, with_resvs}
-use Rattle.laws_bounds.specs.LawsInputs.RouterRules.NodeConfig.{NodeConfig}
-use Rattle.laws_bounds.proofs.LawsInputs.Leaving.{table_put}
-use Rattle.laws_bounds.proofs.LawsInputs.Requesting.{lines_told, to_lines}
+use Rattle.laws_bounds.specs.RouterRules.Asking.{Asker, entry_at, has_room, key_at, resv_state, table_with}
+use Rattle.laws_bounds.specs.RouterRules.Books.{book, line_of, lines, lines_of}
+use Rattle.laws_bounds.specs.RouterRules.Facts.{Facts, Resvs, resvs_of, with_resvs}
+use Rattle.laws_bounds.specs.RouterRules.NodeConfig.{NodeConfig}
+use Rattle.laws_bounds.proofs.Leaving.{table_put}
+use Rattle.laws_bounds.proofs.Requesting.{lines_told, to_lines}
 use Rattle.laws_bounds.proofs.Putting.{IsPut, put_source}
 use Rattle.laws_bounds.proofs.Shrinking.{table_lines_told}
 use Rattle.laws_steps.specs.AcceptingLaws.{CanBeHeld, HasPlace, IsBooked, line_at}

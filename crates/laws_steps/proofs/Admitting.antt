@@ -34,27 +34,27 @@ use Rattle.rsvp_messages.specs.Units.{AskedUnit, asked_units, ask_style, fixed_u
 use Rattle.style_rules.specs.CutLaws.{part_of_some}
 use Rattle.style_rules.specs.Lines.{AreUnder, Line, LineKey, NextHop, line_keys, next_hops}
 use Rattle.style_rules.specs.Parts.{part_of}
-use Rattle.laws_bounds.specs.LawsInputs.RouterRules.declared.answers.Heard.TheVariants as heard
-use Rattle.laws_bounds.specs.LawsInputs.RouterRules.Act.{act, act_spelt}
-use Rattle.laws_bounds.specs.LawsInputs.RouterRules.Asking.{Asker, Taking, act_resv, asker_of, book_refuses, errors_in_order, has_style, heard_of, key_at, lost, matched, names_that_match, nothing_taken}
-use Rattle.laws_bounds.specs.LawsInputs.RouterRules.Asking.{put_tested, put_unit, resv_state, style_conflict, table_with, take_unit, take_units, taking, taking_of, tell_lost, Nobody, These}
-use Rattle.laws_bounds.specs.LawsInputs.RouterRules.Books.{lines}
-use Rattle.laws_bounds.specs.LawsInputs.RouterRules.Facts.{Facts, Resvs, ResvState, ResvTables, Want, resvs_in, resvs_of, table_of, with_resvs, with_table, wants_in}
-use Rattle.laws_bounds.specs.LawsInputs.RouterRules.Forgetting.{forget, is_lost}
-use Rattle.laws_bounds.specs.LawsInputs.RouterRules.Inputs.{Change, ErrSend, Input, Send}
-use Rattle.laws_bounds.specs.LawsInputs.RouterRules.Known.{known, named_as}
-use Rattle.laws_bounds.specs.LawsInputs.RouterRules.NodeConfig.{NodeConfig, goes_out, own}
-use Rattle.laws_bounds.specs.LawsInputs.RouterRules.Requests.{is_style}
-use Rattle.laws_bounds.specs.LawsInputs.RouterRules.Rule.{settled}
-use Rattle.laws_bounds.specs.LawsInputs.SendLaws.{IsConf, IsError, IsPath, IsPathTear, IsResv, IsResvTear}
-use Rattle.laws_bounds.proofs.LawsInputs.Knowing.{named_told}
-use Rattle.laws_bounds.proofs.LawsInputs.Leaving.{forgetting_by_names, table_put}
-use Rattle.laws_bounds.proofs.LawsInputs.Lists.{in_values, one_name, some_is, some_same}
-use Rattle.laws_bounds.proofs.LawsInputs.Tests.{addr_tested, style_told}
-use Rattle.laws_bounds.specs.LawsInputs.AskLaws.{IsOfUnit}
-use Rattle.laws_bounds.proofs.LawsInputs.Taking.{units_source}
-use Rattle.laws_bounds.specs.LawsInputs.RouterRules.Steps.{facts_then, sent_then}
-use Rattle.laws_bounds.proofs.LawsInputs.Stepping.{send_told}
+use Rattle.laws_bounds.specs.RouterRules.declared.answers.Heard.TheVariants as heard
+use Rattle.laws_bounds.specs.RouterRules.Act.{act, act_spelt}
+use Rattle.laws_bounds.specs.RouterRules.Asking.{Asker, Taking, act_resv, asker_of, book_refuses, errors_in_order, has_style, heard_of, key_at, lost, matched, names_that_match, nothing_taken}
+use Rattle.laws_bounds.specs.RouterRules.Asking.{put_tested, put_unit, resv_state, style_conflict, table_with, take_unit, take_units, taking, taking_of, tell_lost, Nobody, These}
+use Rattle.laws_bounds.specs.RouterRules.Books.{lines}
+use Rattle.laws_bounds.specs.RouterRules.Facts.{Facts, Resvs, ResvState, ResvTables, Want, resvs_in, resvs_of, table_of, with_resvs, with_table, wants_in}
+use Rattle.laws_bounds.specs.RouterRules.Forgetting.{forget, is_lost}
+use Rattle.laws_bounds.specs.RouterRules.Inputs.{Change, ErrSend, Input, Send}
+use Rattle.laws_bounds.specs.RouterRules.Known.{known, named_as}
+use Rattle.laws_bounds.specs.RouterRules.NodeConfig.{NodeConfig, goes_out, own}
+use Rattle.laws_bounds.specs.RouterRules.Requests.{is_style}
+use Rattle.laws_bounds.specs.RouterRules.Rule.{settled}
+use Rattle.laws_bounds.specs.SendLaws.{IsConf, IsError, IsPath, IsPathTear, IsResv, IsResvTear}
+use Rattle.laws_bounds.proofs.Knowing.{named_told}
+use Rattle.laws_bounds.proofs.Leaving.{forgetting_by_names, table_put}
+use Rattle.laws_bounds.proofs.Lists.{in_values, one_name, some_is, some_same}
+use Rattle.laws_bounds.proofs.Tests.{addr_tested, style_told}
+use Rattle.laws_bounds.specs.AskLaws.{IsOfUnit}
+use Rattle.laws_bounds.proofs.Taking.{units_source}
+use Rattle.laws_bounds.specs.RouterRules.Steps.{facts_then, sent_then}
+use Rattle.laws_bounds.proofs.Stepping.{send_told}
 use Rattle.laws_bounds.proofs.Reserving.{forgotten_fewer}
 use Rattle.laws_bounds.proofs.Shrinking.{lines_under}
 use Rattle.laws_steps.specs.AcceptingLaws.{CanBeHeld, CanBeTaken, IsBooked, IsPlaced, IsTakenWhole, WhatIsAccepted, came_resv}

@@ -19,21 +19,21 @@ use Rattle.rsvp_messages.specs.declared.message.ResvTearMsg.{ResvTearMsg}
 use Rattle.rsvp_messages.specs.Units.{AskedUnit, ask_style, asked_units, tear_names, tear_style}
 use Rattle.style_rules.specs.Lines.{LineKey, NextHop, is_of_hop, next_hops}
 use Rattle.style_rules.specs.Parts.{has_name}
-use Rattle.laws_bounds.specs.LawsInputs.RouterRules.Act.{act, act_spelt, is_mine}
-use Rattle.laws_bounds.specs.LawsInputs.RouterRules.Asking.{Asker, act_resv, act_resv_tear, asker_of, key_at, matched, names_one, names_that_match, nothing_taken, stays, taking_of}
-use Rattle.laws_bounds.specs.LawsInputs.RouterRules.Bounds.{IsWithinBounds}
-use Rattle.laws_bounds.specs.LawsInputs.RouterRules.Facts.{Facts, ResvState, Resvs, resvs_of}
-use Rattle.laws_bounds.specs.LawsInputs.RouterRules.Forgetting.{is_lost}
-use Rattle.laws_bounds.specs.LawsInputs.RouterRules.Inputs.{Call, Came, Change, Clear, Input, Moved, Spelt, Unspelt, Wait}
-use Rattle.laws_bounds.specs.LawsInputs.RouterRules.Known.{known, named_as}
-use Rattle.laws_bounds.specs.LawsInputs.RouterRules.NodeConfig.{NodeConfig, own}
-use Rattle.laws_bounds.proofs.LawsInputs.Leaving.{forgetting_by_names, left_by_names, table_other, waiting_leaves_the_living}
-use Rattle.laws_bounds.proofs.LawsInputs.Tests.{addr_told}
-use Rattle.laws_bounds.specs.LawsInputs.AskLaws.{IsOfUnit}
-use Rattle.laws_bounds.proofs.LawsInputs.Receiving.{resv_tears_by_names}
-use Rattle.laws_bounds.proofs.LawsInputs.Taking.{units_other, units_source}
-use Rattle.laws_bounds.proofs.LawsInputs.Wholes.{resvs_in_steps}
-use Rattle.laws_bounds.specs.LawsInputs.RouterRules.Steps.{IsLeftOf, facts_then}
+use Rattle.laws_bounds.specs.RouterRules.Act.{act, act_spelt, is_mine}
+use Rattle.laws_bounds.specs.RouterRules.Asking.{Asker, act_resv, act_resv_tear, asker_of, key_at, matched, names_one, names_that_match, nothing_taken, stays, taking_of}
+use Rattle.laws_bounds.specs.RouterRules.Bounds.{IsWithinBounds}
+use Rattle.laws_bounds.specs.RouterRules.Facts.{Facts, ResvState, Resvs, resvs_of}
+use Rattle.laws_bounds.specs.RouterRules.Forgetting.{is_lost}
+use Rattle.laws_bounds.specs.RouterRules.Inputs.{Call, Came, Change, Clear, Input, Moved, Spelt, Unspelt, Wait}
+use Rattle.laws_bounds.specs.RouterRules.Known.{known, named_as}
+use Rattle.laws_bounds.specs.RouterRules.NodeConfig.{NodeConfig, own}
+use Rattle.laws_bounds.proofs.Leaving.{forgetting_by_names, left_by_names, table_other, waiting_leaves_the_living}
+use Rattle.laws_bounds.proofs.Tests.{addr_told}
+use Rattle.laws_bounds.specs.AskLaws.{IsOfUnit}
+use Rattle.laws_bounds.proofs.Receiving.{resv_tears_by_names}
+use Rattle.laws_bounds.proofs.Taking.{units_other, units_source}
+use Rattle.laws_bounds.proofs.Wholes.{resvs_in_steps}
+use Rattle.laws_bounds.specs.RouterRules.Steps.{IsLeftOf, facts_then}
 use Rattle.laws_bounds.proofs.Putting.{style_same}
 use Rattle.laws_bounds.proofs.Reserving.{forgotten_fewer, itself, tear_fewer}
 use Rattle.laws_steps.specs.ReservationLaws.{IsAskedFor, IsListed, SpeaksOf, TakesName, Touches, TouchesBy, WhatKeepsAReservationFact, WhereAReservationFactComesFrom}

@@ -21,33 +21,33 @@ use Rattle.rsvp_messages.specs.declared.message.ResvMsg.{ResvMsg}
 use Rattle.rsvp_messages.specs.Units.{AskedUnit, ask_style, asked_units}
 use Rattle.style_rules.specs.Lines.{NextHop}
 use Rattle.style_rules.specs.Parts.{has_name}
-use Rattle.laws_bounds.specs.LawsInputs.RouterRules.declared.answers.Heard.TheVariants as heard
-use Rattle.laws_bounds.specs.LawsInputs.RouterRules.declared.answers.Why.TheVariants as why
-use Rattle.laws_bounds.specs.LawsInputs.RouterRules.Act.{act, act_spelt, is_mine}
-use Rattle.laws_bounds.specs.LawsInputs.RouterRules.Asking.{Asker, answered, act_resv, asker_of, err_place, err_places, errors_in_order, has_entry, heard_of, matched, nothing_taken, refusal, style_conflict, style_value}
-use Rattle.laws_bounds.specs.LawsInputs.RouterRules.Asking.{taking, taking_of, value_of, Nobody, These, as_listed}
-use Rattle.laws_bounds.specs.LawsInputs.RouterRules.Confirming.{ConfsHeard, confs_heard, confs_on, with_confs}
-use Rattle.laws_bounds.specs.LawsInputs.RouterRules.Errors.{act_resv_err, blamed, lane_of, path_err, path_err_on, replied, reply_to}
-use Rattle.laws_bounds.specs.LawsInputs.RouterRules.Facts.{Facts, PathState, ResvState, resvs_of}
-use Rattle.laws_bounds.specs.LawsInputs.RouterRules.Inputs.{Call, Came, Change, Clear, ErrMsg, ErrSend, Input, Moved, OfPath, OfResv, Send, Spelt, Unspelt, Wait, only_heard}
-use Rattle.laws_bounds.specs.LawsInputs.RouterRules.Known.{known}
-use Rattle.laws_bounds.specs.LawsInputs.RouterRules.NodeConfig.{NodeConfig, goes_out, is_own, own}
-use Rattle.laws_bounds.specs.LawsInputs.RouterRules.Rule.{rule, settled}
-use Rattle.laws_bounds.specs.LawsInputs.RouterRules.Sends.{error_message, error_send}
-use Rattle.laws_bounds.specs.LawsInputs.FactLaws.{ComesBy}
-use Rattle.laws_bounds.specs.LawsInputs.SendLaws.{IsConf, IsError, IsPath, IsPathTear, IsResv, IsResvTear, IsSend}
-use Rattle.laws_bounds.proofs.LawsInputs.Lists.{some_same, to_ordered}
-use Rattle.laws_bounds.proofs.LawsInputs.Sending.{not_told}
-use Rattle.laws_bounds.proofs.LawsInputs.Tests.{addr_told}
-use Rattle.laws_bounds.specs.LawsInputs.ErrorLaws.{IsPathReply, IsResvReply, errors_with, walls_set}
-use Rattle.laws_bounds.specs.LawsInputs.AskLaws.{IsBookRefusal, IsLoss}
-use Rattle.laws_bounds.proofs.LawsInputs.Answering.{faults_by_hint}
-use Rattle.laws_bounds.proofs.LawsInputs.Wholes.{units_in_full}
-use Rattle.laws_bounds.proofs.LawsInputs.Erring.{errors_once_each, resv_errs_by_tests}
-use Rattle.laws_bounds.specs.LawsInputs.RouterRules.Steps.{sent_then}
-use Rattle.laws_bounds.proofs.LawsInputs.Stepping.{send_told}
+use Rattle.laws_bounds.specs.RouterRules.declared.answers.Heard.TheVariants as heard
+use Rattle.laws_bounds.specs.RouterRules.declared.answers.Why.TheVariants as why
+use Rattle.laws_bounds.specs.RouterRules.Act.{act, act_spelt, is_mine}
+use Rattle.laws_bounds.specs.RouterRules.Asking.{Asker, answered, act_resv, asker_of, err_place, err_places, errors_in_order, has_entry, heard_of, matched, nothing_taken, refusal, style_conflict, style_value}
+use Rattle.laws_bounds.specs.RouterRules.Asking.{taking, taking_of, value_of, Nobody, These, as_listed}
+use Rattle.laws_bounds.specs.RouterRules.Confirming.{ConfsHeard, confs_heard, confs_on, with_confs}
+use Rattle.laws_bounds.specs.RouterRules.Errors.{act_resv_err, blamed, lane_of, path_err, path_err_on, replied, reply_to}
+use Rattle.laws_bounds.specs.RouterRules.Facts.{Facts, PathState, ResvState, resvs_of}
+use Rattle.laws_bounds.specs.RouterRules.Inputs.{Call, Came, Change, Clear, ErrMsg, ErrSend, Input, Moved, OfPath, OfResv, Send, Spelt, Unspelt, Wait, only_heard}
+use Rattle.laws_bounds.specs.RouterRules.Known.{known}
+use Rattle.laws_bounds.specs.RouterRules.NodeConfig.{NodeConfig, goes_out, is_own, own}
+use Rattle.laws_bounds.specs.RouterRules.Rule.{rule, settled}
+use Rattle.laws_bounds.specs.RouterRules.Sends.{error_message, error_send}
+use Rattle.laws_bounds.specs.FactLaws.{ComesBy}
+use Rattle.laws_bounds.specs.SendLaws.{IsConf, IsError, IsPath, IsPathTear, IsResv, IsResvTear, IsSend}
+use Rattle.laws_bounds.proofs.Lists.{some_same, to_ordered}
+use Rattle.laws_bounds.proofs.Sending.{not_told}
+use Rattle.laws_bounds.proofs.Tests.{addr_told}
+use Rattle.laws_bounds.specs.ErrorLaws.{IsPathReply, IsResvReply, errors_with, walls_set}
+use Rattle.laws_bounds.specs.AskLaws.{IsBookRefusal, IsLoss}
+use Rattle.laws_bounds.proofs.Answering.{faults_by_hint}
+use Rattle.laws_bounds.proofs.Wholes.{units_in_full}
+use Rattle.laws_bounds.proofs.Erring.{errors_once_each, resv_errs_by_tests}
+use Rattle.laws_bounds.specs.RouterRules.Steps.{sent_then}
+use Rattle.laws_bounds.proofs.Stepping.{send_told}
 use Rattle.laws_steps.specs.BlameLaws.{AreBlamed, IsPassedOn, IsRefusal, WhereAnErrorWithAFlowComesFrom}
-use Rattle.laws_bounds.proofs.LawsInputs.Blame.{never_nobody, sent_listing, these_are}
+use Rattle.laws_bounds.proofs.Blame.{never_nobody, sent_listing, these_are}
 
 -- ---- sends that are ResvErrs
 no_path_tear : (w : ErrMsg) (m : ResvErrMsg) → error_message w ≡ message.ResvErr m → w ≡ OfResv m

@@ -13,11 +13,11 @@ use Rattle.style_rules.specs.Parts.{part_join, part_meet}
 use Rattle.rsvp_base.specs.Styles.{part_unit}
 use Rattle.style_rules.specs.Toward.{Request, open_of, or_else, parts_of, requests_at, toward_at}
 use Rattle.style_rules.proofs.Merges.{those_at-each}
-use Rattle.laws_bounds.specs.LawsInputs.RouterRules.Facts.{Facts, ResvState, Walls, Want, resvs_in, wants_in}
-use Rattle.laws_bounds.specs.LawsInputs.RouterRules.Known.{Lane, names_via}
-use Rattle.laws_bounds.specs.LawsInputs.RouterRules.NodeConfig.{NodeConfig}
-use Rattle.laws_bounds.specs.LawsInputs.RouterRules.Requests.{is_style, request_of, requests, resv_part, resv_request, want_part, want_request}
-use Rattle.laws_bounds.proofs.LawsInputs.Requesting.{requests_and_toward}
+use Rattle.laws_bounds.specs.RouterRules.Facts.{Facts, ResvState, Walls, Want, resvs_in, wants_in}
+use Rattle.laws_bounds.specs.RouterRules.Known.{Lane, names_via}
+use Rattle.laws_bounds.specs.RouterRules.NodeConfig.{NodeConfig}
+use Rattle.laws_bounds.specs.RouterRules.Requests.{is_style, request_of, requests, resv_part, resv_request, want_part, want_request}
+use Rattle.laws_bounds.proofs.Requesting.{requests_and_toward}
 use Rattle.laws_steps.specs.BlameLaws.{UnitsOfTowardDoNotDependOnBlockade}
 
 abbrev part_in : Request → Part

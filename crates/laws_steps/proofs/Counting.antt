@@ -8,18 +8,18 @@ use Rattle.rsvp_base.specs.Orders.{sessions}
 use Rattle.rsvp_base.specs.Sets.{Set}
 use Rattle.rsvp_base.specs.Table.{empty, get, has}
 use Rattle.rsvp_base.proofs.Tables.{either, get-changed, then_do}
-use Rattle.laws_bounds.specs.LawsInputs.RouterRules.Act.{act}
-use Rattle.laws_bounds.specs.LawsInputs.RouterRules.Facts.{Facts}
-use Rattle.laws_bounds.specs.LawsInputs.RouterRules.Forgetting.{counted}
-use Rattle.laws_bounds.specs.LawsInputs.RouterRules.Inputs.{Input, Call, Wait, Clear, Came, Moved}
-use Rattle.laws_bounds.specs.LawsInputs.RouterRules.NodeConfig.{NodeConfig, period}
-use Rattle.laws_bounds.specs.LawsInputs.RouterRules.Waiting.{next_due}
-use Rattle.laws_bounds.proofs.LawsInputs.Knowing.{known_and_via}
-use Rattle.laws_bounds.proofs.LawsInputs.Leaving.{countdowns_settle, waiting_leaves_the_living}
-use Rattle.laws_bounds.proofs.LawsInputs.Lists.{some_same}
+use Rattle.laws_bounds.specs.RouterRules.Act.{act}
+use Rattle.laws_bounds.specs.RouterRules.Facts.{Facts}
+use Rattle.laws_bounds.specs.RouterRules.Forgetting.{counted}
+use Rattle.laws_bounds.specs.RouterRules.Inputs.{Input, Call, Wait, Clear, Came, Moved}
+use Rattle.laws_bounds.specs.RouterRules.NodeConfig.{NodeConfig, period}
+use Rattle.laws_bounds.specs.RouterRules.Waiting.{next_due}
+use Rattle.laws_bounds.proofs.Knowing.{known_and_via}
+use Rattle.laws_bounds.proofs.Leaving.{countdowns_settle, waiting_leaves_the_living}
+use Rattle.laws_bounds.proofs.Lists.{some_same}
 use Rattle.laws_steps.specs.CountdownLaws.{CountdownsMoveByTheirRule, IsMoved, IsReached}
-use Rattle.laws_bounds.specs.LawsInputs.RouterRules.Steps.{facts_then, fired_then, is_calm, left_by}
-use Rattle.laws_bounds.proofs.LawsInputs.Stepping.{stands_settled, quiet_due}
+use Rattle.laws_bounds.specs.RouterRules.Steps.{facts_then, fired_then, is_calm, left_by}
+use Rattle.laws_bounds.proofs.Stepping.{stands_settled, quiet_due}
 
 module _ (old p : NodeConfig) (c : ℕ) (i : Input) (f : Facts) (s : Session) where
   pub due_then : get (facts_then old p c i f).due s ≡ cond (has (counted (act p c i f).facts) s) (Some (unwrap_or (get (act p c i f).facts.due s) (c + period p))) None

@@ -16,22 +16,22 @@ use Rattle.rsvp_base.proofs.UnderLaws.{get-under}
 use Rattle.rsvp_messages.specs.declared.message.Message.{Message}
 use Rattle.rsvp_messages.specs.declared.message.Message.TheVariants as message
 use Rattle.rsvp_messages.specs.declared.message.ResvErrMsg.{ResvErrMsg}
-use Rattle.laws_bounds.specs.LawsInputs.RouterRules.Act.{act_spelt, is_mine}
-use Rattle.laws_bounds.specs.LawsInputs.RouterRules.Bounds.{IsWithinBounds}
-use Rattle.laws_bounds.specs.LawsInputs.RouterRules.Errors.{blockade_of, is_admission, walled_by, walls_after, walls_with}
-use Rattle.laws_bounds.specs.LawsInputs.RouterRules.Facts.{Blockade, Facts, paths_in}
+use Rattle.laws_bounds.specs.RouterRules.Act.{act_spelt, is_mine}
+use Rattle.laws_bounds.specs.RouterRules.Bounds.{IsWithinBounds}
+use Rattle.laws_bounds.specs.RouterRules.Errors.{blockade_of, is_admission, walled_by, walls_after, walls_with}
+use Rattle.laws_bounds.specs.RouterRules.Facts.{Blockade, Facts, paths_in}
 use Rattle.style_rules.specs.Targets.{WallKey}
-use Rattle.laws_bounds.specs.LawsInputs.RouterRules.Forgetting.{counted}
-use Rattle.laws_bounds.specs.LawsInputs.RouterRules.Inputs.{Input, Call, Came, Clear, Moved, Spelt, Unspelt, Wait}
-use Rattle.laws_bounds.specs.LawsInputs.RouterRules.Known.{came_by}
-use Rattle.laws_bounds.specs.LawsInputs.RouterRules.NodeConfig.{NodeConfig, own, period}
-use Rattle.laws_bounds.specs.LawsInputs.FactLaws.{ComesBy}
-use Rattle.laws_bounds.proofs.LawsInputs.Leaving.{waiting_leaves_the_living}
-use Rattle.laws_bounds.proofs.LawsInputs.Lists.{in_values}
-use Rattle.laws_bounds.proofs.LawsInputs.Tests.{addr_told}
-use Rattle.laws_bounds.proofs.LawsInputs.Telling.{errors_and_walls}
-use Rattle.laws_bounds.specs.LawsInputs.Frames.{on_paths, on_resvs}
-use Rattle.laws_bounds.specs.LawsInputs.RouterRules.Steps.{facts_then, node_step}
+use Rattle.laws_bounds.specs.RouterRules.Forgetting.{counted}
+use Rattle.laws_bounds.specs.RouterRules.Inputs.{Input, Call, Came, Clear, Moved, Spelt, Unspelt, Wait}
+use Rattle.laws_bounds.specs.RouterRules.Known.{came_by}
+use Rattle.laws_bounds.specs.RouterRules.NodeConfig.{NodeConfig, own, period}
+use Rattle.laws_bounds.specs.FactLaws.{ComesBy}
+use Rattle.laws_bounds.proofs.Leaving.{waiting_leaves_the_living}
+use Rattle.laws_bounds.proofs.Lists.{in_values}
+use Rattle.laws_bounds.proofs.Tests.{addr_told}
+use Rattle.laws_bounds.proofs.Telling.{errors_and_walls}
+use Rattle.laws_bounds.specs.Frames.{on_paths, on_resvs}
+use Rattle.laws_bounds.specs.RouterRules.Steps.{facts_then, node_step}
 use Rattle.laws_steps.proofs.Counting.{due_then}
 use Rattle.laws_steps.proofs.Framing.{left_as_it_was}
 use Rattle.laws_bounds.proofs.Keeping.{unset}

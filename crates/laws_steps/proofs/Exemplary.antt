@@ -20,16 +20,16 @@ use Rattle.rsvp_base.specs.declared.entry_key.EntryKey.{EntryKey}
 use Rattle.style_rules.specs.Limits.{IsWithinLimits}
 use Rattle.style_rules.specs.PartLaws.{part_at_most_itself}
 use Rattle.style_rules.proofs.Room.{within_told}
-use Rattle.laws_bounds.specs.LawsInputs.RouterRules.Asking.{asker_of}
-use Rattle.laws_bounds.specs.LawsInputs.RouterRules.Bounds.{IsWithinBounds}
-use Rattle.laws_bounds.specs.LawsInputs.RouterRules.Facts.{Facts, ResvState, no_facts, resvs_of}
-use Rattle.laws_bounds.specs.LawsInputs.RouterRules.Inputs.{Wait}
+use Rattle.laws_bounds.specs.RouterRules.Asking.{asker_of}
+use Rattle.laws_bounds.specs.RouterRules.Bounds.{IsWithinBounds}
+use Rattle.laws_bounds.specs.RouterRules.Facts.{Facts, ResvState, no_facts, resvs_of}
+use Rattle.laws_bounds.specs.RouterRules.Inputs.{Wait}
 use Rattle.router_examples.specs.ThreeRouters.{first, iface, r2, s1, scope, session, usual}
-use Rattle.laws_bounds.specs.LawsInputs.RouterRules.Act.{act}
-use Rattle.laws_bounds.proofs.LawsInputs.RouterRules.Bounding.{no_facts_are_within_bounds}
-use Rattle.laws_bounds.proofs.LawsInputs.Leaving.{waiting_leaves_the_living}
-use Rattle.laws_bounds.proofs.LawsInputs.Lists.{some_same}
-use Rattle.laws_bounds.specs.LawsInputs.RouterRules.Steps.{AreFewer, IsFit, IsSameNode, facts_then}
+use Rattle.laws_bounds.specs.RouterRules.Act.{act}
+use Rattle.laws_bounds.proofs.RouterRules.Bounding.{no_facts_are_within_bounds}
+use Rattle.laws_bounds.proofs.Leaving.{waiting_leaves_the_living}
+use Rattle.laws_bounds.proofs.Lists.{some_same}
+use Rattle.laws_bounds.specs.RouterRules.Steps.{AreFewer, IsFit, IsSameNode, facts_then}
 use Rattle.laws_bounds.proofs.Folding.{only_one}
 use Rattle.laws_bounds.proofs.Reserving.{forgotten_fewer}
 use Rattle.laws_bounds.proofs.Bounded.{a_step_keeps_a_node_within_bounds}

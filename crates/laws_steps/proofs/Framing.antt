@@ -7,20 +7,20 @@ use Rattle.rsvp_base.specs.declared.style.StyleKind.{StyleKind}
 use Rattle.rsvp_base.specs.declared.style.StyleKind.TheVariants.{Wild, Fixed, Shared}
 use Rattle.rsvp_base.specs.Table.{changed, get, has}
 use Rattle.rsvp_base.proofs.Tables.{get-changed, same_table, then_do}
-use Rattle.laws_bounds.specs.LawsInputs.RouterRules.Lines.{LineKey, line_keys}
-use Rattle.laws_bounds.specs.LawsInputs.RouterRules.Parts.{has_name}
-use Rattle.laws_bounds.specs.LawsInputs.RouterRules.Act.{act}
-use Rattle.laws_bounds.specs.LawsInputs.RouterRules.Bounds.{IsWithinBounds}
-use Rattle.laws_bounds.specs.LawsInputs.RouterRules.Facts.{Facts, Resvs, ResvState, resvs_of}
-use Rattle.laws_bounds.specs.LawsInputs.RouterRules.Forgetting.{forget, is_lost, remembered}
-use Rattle.laws_bounds.specs.LawsInputs.RouterRules.Inputs.{Input, Call, Wait, Clear, Came, Moved}
-use Rattle.laws_bounds.specs.LawsInputs.RouterRules.Known.{known, named_as}
-use Rattle.laws_bounds.specs.LawsInputs.RouterRules.NodeConfig.{NodeConfig}
-use Rattle.laws_bounds.proofs.LawsInputs.Leaving.{left_whole}
-use Rattle.laws_bounds.specs.LawsInputs.Frames.{AreSameButMarks, on_advertised, on_paths, on_resvs, on_senders, on_wants}
+use Rattle.laws_bounds.specs.RouterRules.Lines.{LineKey, line_keys}
+use Rattle.laws_bounds.specs.RouterRules.Parts.{has_name}
+use Rattle.laws_bounds.specs.RouterRules.Act.{act}
+use Rattle.laws_bounds.specs.RouterRules.Bounds.{IsWithinBounds}
+use Rattle.laws_bounds.specs.RouterRules.Facts.{Facts, Resvs, ResvState, resvs_of}
+use Rattle.laws_bounds.specs.RouterRules.Forgetting.{forget, is_lost, remembered}
+use Rattle.laws_bounds.specs.RouterRules.Inputs.{Input, Call, Wait, Clear, Came, Moved}
+use Rattle.laws_bounds.specs.RouterRules.Known.{known, named_as}
+use Rattle.laws_bounds.specs.RouterRules.NodeConfig.{NodeConfig}
+use Rattle.laws_bounds.proofs.Leaving.{left_whole}
+use Rattle.laws_bounds.specs.Frames.{AreSameButMarks, on_advertised, on_paths, on_resvs, on_senders, on_wants}
 use Rattle.laws_steps.specs.FrameLaws.{CalmStepsKeepTheLocals, LeftAsItWas}
-use Rattle.laws_bounds.specs.LawsInputs.RouterRules.Steps.{facts_then, is_calm, left_by}
-use Rattle.laws_bounds.proofs.LawsInputs.Framing.{act_advertised, act_senders, act_wants, act_paths, act_resvs, act_walls, wants_then}
+use Rattle.laws_bounds.specs.RouterRules.Steps.{facts_then, is_calm, left_by}
+use Rattle.laws_bounds.proofs.Framing.{act_advertised, act_senders, act_wants, act_paths, act_resvs, act_walls, wants_then}
 
 wants_left : (old p : NodeConfig) (c : ℕ) (i : Input) (f : Facts) → on_wants i ≡ false → AreSameButMarks f.wants (facts_then old p c i f).wants
 wants_left old p c i f n = subst (λ t. AreSameButMarks t (facts_then old p c i f).wants) (act_wants p c i f n) (wants_then old p c i f)

@@ -17,24 +17,24 @@ use Rattle.rsvp_messages.specs.declared.message.ResvMsg.{ResvMsg}
 use Rattle.rsvp_messages.specs.declared.message.ResvTearMsg.{ResvTearMsg}
 use Rattle.rsvp_messages.specs.Units.{ask_style}
 use Rattle.style_rules.specs.Merge.{PartTable}
-use Rattle.laws_bounds.specs.LawsInputs.RouterRules.Act.{act}
-use Rattle.laws_bounds.specs.LawsInputs.RouterRules.Asking.{ask_of, ask_of_part, flows_by_sender}
-use Rattle.laws_bounds.specs.LawsInputs.RouterRules.Facts.{Facts}
-use Rattle.laws_bounds.specs.LawsInputs.RouterRules.Inputs.{ErrMsg, Input, OfPath, OfResv, Send}
-use Rattle.laws_bounds.specs.LawsInputs.RouterRules.Known.{Lane, names_via}
-use Rattle.laws_bounds.specs.LawsInputs.RouterRules.NodeConfig.{NodeConfig}
-use Rattle.laws_bounds.specs.LawsInputs.RouterRules.Requests.{toward}
-use Rattle.laws_bounds.specs.LawsInputs.RouterRules.Rule.{settled}
-use Rattle.laws_bounds.specs.LawsInputs.RouterRules.Sends.{error_message, gone_names, is_changed, torn_names}
-use Rattle.laws_bounds.specs.LawsInputs.SendLaws.{IsConf, IsError, IsPath, IsPathTear, IsResv, IsResvTear, IsSend}
-use Rattle.laws_bounds.proofs.LawsInputs.Asks.{gone_told, style_told}
-use Rattle.laws_bounds.proofs.LawsInputs.Knowing.{lanes_told}
-use Rattle.laws_bounds.proofs.LawsInputs.Ruling.{rule_in_parts}
-use Rattle.laws_bounds.proofs.LawsInputs.Sending.{not_told}
-use Rattle.laws_bounds.proofs.LawsInputs.Tests.{parts_tested}
-use Rattle.laws_bounds.proofs.LawsInputs.Lists.{one_name}
-use Rattle.laws_bounds.specs.LawsInputs.RouterRules.Steps.{facts_then, fired_then, sent_then, left_by}
-use Rattle.laws_bounds.proofs.LawsInputs.Stepping.{send_told}
+use Rattle.laws_bounds.specs.RouterRules.Act.{act}
+use Rattle.laws_bounds.specs.RouterRules.Asking.{ask_of, ask_of_part, flows_by_sender}
+use Rattle.laws_bounds.specs.RouterRules.Facts.{Facts}
+use Rattle.laws_bounds.specs.RouterRules.Inputs.{ErrMsg, Input, OfPath, OfResv, Send}
+use Rattle.laws_bounds.specs.RouterRules.Known.{Lane, names_via}
+use Rattle.laws_bounds.specs.RouterRules.NodeConfig.{NodeConfig}
+use Rattle.laws_bounds.specs.RouterRules.Requests.{toward}
+use Rattle.laws_bounds.specs.RouterRules.Rule.{settled}
+use Rattle.laws_bounds.specs.RouterRules.Sends.{error_message, gone_names, is_changed, torn_names}
+use Rattle.laws_bounds.specs.SendLaws.{IsConf, IsError, IsPath, IsPathTear, IsResv, IsResvTear, IsSend}
+use Rattle.laws_bounds.proofs.Asks.{gone_told, style_told}
+use Rattle.laws_bounds.proofs.Knowing.{lanes_told}
+use Rattle.laws_bounds.proofs.Ruling.{rule_in_parts}
+use Rattle.laws_bounds.proofs.Sending.{not_told}
+use Rattle.laws_bounds.proofs.Tests.{parts_tested}
+use Rattle.laws_bounds.proofs.Lists.{one_name}
+use Rattle.laws_bounds.specs.RouterRules.Steps.{facts_then, fired_then, sent_then, left_by}
+use Rattle.laws_bounds.proofs.Stepping.{send_told}
 use Rattle.laws_steps.specs.ReservationLaws.{IsOfGoneUnits, IsOfLane, WhatAResvSentSays, WhyAResvTearIsSent}
 
 no_error : (w : ErrMsg) (m : ResvMsg) → error_message w ≡ message.Resv m → ⊥

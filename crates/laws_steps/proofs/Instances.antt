@@ -7,14 +7,14 @@ use Rattle.rsvp_base.specs.Orders.{senders}
 use Rattle.rsvp_base.specs.Sets.{set_of}
 use Rattle.rsvp_base.specs.Table.{has}
 use Rattle.rsvp_base.proofs.Counts.{set_of_in}
-use Rattle.laws_bounds.specs.LawsInputs.RouterRules.Asking.{stays}
-use Rattle.laws_bounds.specs.LawsInputs.RouterRules.Inputs.{Wait}
+use Rattle.laws_bounds.specs.RouterRules.Asking.{stays}
+use Rattle.laws_bounds.specs.RouterRules.Inputs.{Wait}
 use Rattle.router_examples.specs.ThreeRouters.{s1, scope, session}
 use Rattle.laws_steps.specs.Examples.{of_t, one_resv, r, reserved}
 use Rattle.laws_steps.specs.ReservationExamples.{BlameLawsHaveExamples, ReservationLawsHaveExamples, spared_in}
 use Rattle.laws_steps.specs.ReservationLaws.{IsKnownThen, Touches}
 use Rattle.laws_steps.proofs.Exemplary.{frame_laws_have_examples, path_laws_have_examples}
-use Rattle.laws_bounds.specs.LawsInputs.RouterRules.Steps.{node_step}
+use Rattle.laws_bounds.specs.RouterRules.Steps.{node_step}
 
 -- the one name of the SCOPE is known
 scope_known : (x : Sender) → has scope x ≡ true → IsKnownThen (node_step r r 15000 15000 (Wait 15000 0) one_resv) Wild session x

@@ -16,22 +16,22 @@ use Rattle.rsvp_messages.specs.declared.message.Message.{Message}
 use Rattle.rsvp_messages.specs.declared.message.Message.TheVariants as message
 use Rattle.rsvp_messages.specs.declared.message.PathMsg.{PathMsg}
 use Rattle.rsvp_messages.specs.declared.message.PathTearMsg.{PathTearMsg}
-use Rattle.laws_bounds.specs.LawsInputs.RouterRules.declared.answers.Heard.TheVariants as heard
-use Rattle.laws_bounds.specs.LawsInputs.RouterRules.declared.answers.Why.TheVariants as why
-use Rattle.laws_bounds.specs.LawsInputs.RouterRules.Act.{act_spelt, is_mine}
-use Rattle.laws_bounds.specs.LawsInputs.RouterRules.Facts.{Facts, PathState, Paths, SenderKey, sender_keys}
-use Rattle.laws_bounds.specs.LawsInputs.RouterRules.Inputs.{Input, Call, Wait, Clear, Came, Change, Moved, Spelt, Unspelt}
-use Rattle.laws_bounds.specs.LawsInputs.RouterRules.Known.{came_by}
-use Rattle.laws_bounds.specs.LawsInputs.RouterRules.Paths.{is_path_by, learn, learn_inward, learnt, path_state, tear_path, torn_path}
-use Rattle.laws_bounds.specs.LawsInputs.RouterRules.NodeConfig.{NodeConfig, comes_in, is_addr}
-use Rattle.laws_bounds.specs.LawsInputs.RouterRules.Rule.{rule}
-use Rattle.laws_bounds.specs.LawsInputs.RouterRules.Waiting.{living}
-use Rattle.laws_bounds.proofs.LawsInputs.Tests.{addr_told, addr_tested}
-use Rattle.laws_bounds.proofs.LawsInputs.Receiving.{paths_by_tests}
+use Rattle.laws_bounds.specs.RouterRules.declared.answers.Heard.TheVariants as heard
+use Rattle.laws_bounds.specs.RouterRules.declared.answers.Why.TheVariants as why
+use Rattle.laws_bounds.specs.RouterRules.Act.{act_spelt, is_mine}
+use Rattle.laws_bounds.specs.RouterRules.Facts.{Facts, PathState, Paths, SenderKey, sender_keys}
+use Rattle.laws_bounds.specs.RouterRules.Inputs.{Input, Call, Wait, Clear, Came, Change, Moved, Spelt, Unspelt}
+use Rattle.laws_bounds.specs.RouterRules.Known.{came_by}
+use Rattle.laws_bounds.specs.RouterRules.Paths.{is_path_by, learn, learn_inward, learnt, path_state, tear_path, torn_path}
+use Rattle.laws_bounds.specs.RouterRules.NodeConfig.{NodeConfig, comes_in, is_addr}
+use Rattle.laws_bounds.specs.RouterRules.Rule.{rule}
+use Rattle.laws_bounds.specs.RouterRules.Waiting.{living}
+use Rattle.laws_bounds.proofs.Tests.{addr_told, addr_tested}
+use Rattle.laws_bounds.proofs.Receiving.{paths_by_tests}
 use Rattle.laws_steps.specs.PathLaws.{APathOnTheTreeIsLearnt, HowAPathFactGoes, IsReplaced, PathGoes, WhereAPathFactComesFrom}
-use Rattle.laws_bounds.specs.LawsInputs.Sources.{IsLearnt, said_by}
-use Rattle.laws_bounds.specs.LawsInputs.RouterRules.Steps.{facts_then, left_by}
-use Rattle.laws_bounds.proofs.LawsInputs.Stepping.{came_from}
+use Rattle.laws_bounds.specs.Sources.{IsLearnt, said_by}
+use Rattle.laws_bounds.specs.RouterRules.Steps.{facts_then, left_by}
+use Rattle.laws_bounds.proofs.Stepping.{came_from}
 
 pub where_a_path_fact_comes_from : WhereAPathFactComesFrom
 where_a_path_fact_comes_from step within k x h = came_from step.old step.now step.after step.input step.facts k x h

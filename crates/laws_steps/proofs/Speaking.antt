@@ -15,27 +15,27 @@ use Rattle.rsvp_messages.specs.declared.ask.Ask.{Ask}
 use Rattle.rsvp_messages.specs.declared.message.Message.TheVariants as message
 use Rattle.rsvp_messages.specs.declared.message.PathMsg.{PathMsg}
 use Rattle.rsvp_messages.specs.declared.message.PathTearMsg.{PathTearMsg}
-use Rattle.laws_bounds.specs.LawsInputs.RouterRules.Act.{act}
-use Rattle.laws_bounds.specs.LawsInputs.RouterRules.Asking.{ask_of}
-use Rattle.laws_bounds.specs.LawsInputs.RouterRules.Facts.{Facts}
-use Rattle.laws_bounds.specs.LawsInputs.RouterRules.Inputs.{ErrMsg, Input, OfPath, OfResv, Send, Wait}
-use Rattle.laws_bounds.specs.LawsInputs.RouterRules.Known.{Lane, known, lanes}
-use Rattle.laws_bounds.specs.LawsInputs.RouterRules.Offers.{Offer, OfferKey, offer_at, offers}
-use Rattle.laws_bounds.specs.LawsInputs.RouterRules.NodeConfig.{NodeConfig, goes_out, own, period}
-use Rattle.laws_bounds.specs.LawsInputs.RouterRules.Requests.{toward}
-use Rattle.laws_bounds.specs.LawsInputs.RouterRules.Rule.{is_silent, settled}
-use Rattle.laws_bounds.specs.LawsInputs.RouterRules.Sends.{confirm_for, error_message, is_changed, is_new_offer, path_send, resv_send, told_at}
-use Rattle.laws_bounds.specs.LawsInputs.FactLaws.{is_way}
-use Rattle.laws_bounds.specs.LawsInputs.SendLaws.{IsConf, IsError, IsPath, IsPathTear, IsResv, IsResvTear, IsSend}
-use Rattle.laws_bounds.proofs.LawsInputs.Lists.{some_is}
-use Rattle.laws_bounds.proofs.LawsInputs.Offering.{offers_by_way}
-use Rattle.laws_bounds.proofs.LawsInputs.Requesting.{requests_and_toward}
-use Rattle.laws_bounds.proofs.LawsInputs.Ruling.{rule_in_parts}
-use Rattle.laws_bounds.proofs.LawsInputs.Sending.{sends_are_of_six_kinds}
+use Rattle.laws_bounds.specs.RouterRules.Act.{act}
+use Rattle.laws_bounds.specs.RouterRules.Asking.{ask_of}
+use Rattle.laws_bounds.specs.RouterRules.Facts.{Facts}
+use Rattle.laws_bounds.specs.RouterRules.Inputs.{ErrMsg, Input, OfPath, OfResv, Send, Wait}
+use Rattle.laws_bounds.specs.RouterRules.Known.{Lane, known, lanes}
+use Rattle.laws_bounds.specs.RouterRules.Offers.{Offer, OfferKey, offer_at, offers}
+use Rattle.laws_bounds.specs.RouterRules.NodeConfig.{NodeConfig, goes_out, own, period}
+use Rattle.laws_bounds.specs.RouterRules.Requests.{toward}
+use Rattle.laws_bounds.specs.RouterRules.Rule.{is_silent, settled}
+use Rattle.laws_bounds.specs.RouterRules.Sends.{confirm_for, error_message, is_changed, is_new_offer, path_send, resv_send, told_at}
+use Rattle.laws_bounds.specs.FactLaws.{is_way}
+use Rattle.laws_bounds.specs.SendLaws.{IsConf, IsError, IsPath, IsPathTear, IsResv, IsResvTear, IsSend}
+use Rattle.laws_bounds.proofs.Lists.{some_is}
+use Rattle.laws_bounds.proofs.Offering.{offers_by_way}
+use Rattle.laws_bounds.proofs.Requesting.{requests_and_toward}
+use Rattle.laws_bounds.proofs.Ruling.{rule_in_parts}
+use Rattle.laws_bounds.proofs.Sending.{sends_are_of_six_kinds}
 use Rattle.laws_steps.specs.SpeakingLaws.{IsOfGoneOffer, IsOfOffer, IsPathRefresh, IsResvRefresh, RefreshesAreMarked, WhatAPathSentSays, WhyAPathTearIsSent}
 use Rattle.laws_steps.proofs.Counting.{reached}
-use Rattle.laws_bounds.specs.LawsInputs.RouterRules.Steps.{facts_then, sent_then, fired_then}
-use Rattle.laws_bounds.proofs.LawsInputs.Stepping.{offer_source, offered_is_known, offered, send_told}
+use Rattle.laws_bounds.specs.RouterRules.Steps.{facts_then, sent_then, fired_then}
+use Rattle.laws_bounds.proofs.Stepping.{offer_source, offered_is_known, offered, send_told}
 
 not_offered : (p : NodeConfig) (f : Facts) (k : OfferKey) → has (offers p f) k ≡ false → (is_way p k ≡ false) ⊎ (has (known f k.session) k.sender ≡ false)
 not_offered p f k e = by (is_way p k) refl (ap is_some (sym (offers_by_way p f k)) ∙ e)

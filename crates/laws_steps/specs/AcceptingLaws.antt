@@ -17,15 +17,15 @@ use Rattle.rsvp_messages.specs.Units.{AskedUnit, ask_style, asked_units}
 use Rattle.style_rules.specs.Limits.{IsWithinLimits}
 use Rattle.style_rules.specs.Lines.{AreUnder, IsUnder, Line, LineKey, book_of_end, held}
 use Rattle.rsvp_base.specs.declared.entry_key.EntryKey.{EntryKey}
-use Rattle.laws_bounds.specs.LawsInputs.RouterRules.declared.answers.Heard.TheVariants as heard
-use Rattle.laws_bounds.specs.LawsInputs.RouterRules.Asking.{Asker, asker_of, book_refuses, has_room, matched, table_with}
-use Rattle.laws_bounds.specs.LawsInputs.RouterRules.Books.{lines}
-use Rattle.laws_bounds.specs.LawsInputs.RouterRules.Bounds.{IsWithinBounds}
-use Rattle.laws_bounds.specs.LawsInputs.RouterRules.Facts.{Facts, Resvs, ResvState, Want, resvs_of, with_resvs}
-use Rattle.laws_bounds.specs.LawsInputs.RouterRules.Inputs.{Came, Input, Send, Spelt}
-use Rattle.laws_bounds.specs.LawsInputs.RouterRules.NodeConfig.{NodeConfig, lifetime, own}
-use Rattle.laws_bounds.specs.LawsInputs.RouterRules.Rule.{rule}
-use Rattle.laws_bounds.specs.LawsInputs.RouterRules.Steps.{facts_then, sent_then}
+use Rattle.laws_bounds.specs.RouterRules.declared.answers.Heard.TheVariants as heard
+use Rattle.laws_bounds.specs.RouterRules.Asking.{Asker, asker_of, book_refuses, has_room, matched, table_with}
+use Rattle.laws_bounds.specs.RouterRules.Books.{lines}
+use Rattle.laws_bounds.specs.RouterRules.Bounds.{IsWithinBounds}
+use Rattle.laws_bounds.specs.RouterRules.Facts.{Facts, Resvs, ResvState, Want, resvs_of, with_resvs}
+use Rattle.laws_bounds.specs.RouterRules.Inputs.{Came, Input, Send, Spelt}
+use Rattle.laws_bounds.specs.RouterRules.NodeConfig.{NodeConfig, lifetime, own}
+use Rattle.laws_bounds.specs.RouterRules.Rule.{rule}
+use Rattle.laws_bounds.specs.RouterRules.Steps.{facts_then, sent_then}
 
 -- ---- lines that a node can hold, as far as a session at an interface goes: all within the limits of each table, those of the
 -- interface within its capacity, and those of the session there within its MTU

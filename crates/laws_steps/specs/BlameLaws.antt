@@ -14,19 +14,19 @@ use Rattle.rsvp_messages.specs.declared.message.Message.TheVariants as message
 use Rattle.rsvp_messages.specs.declared.message.ResvErrMsg.{ResvErrMsg}
 use Rattle.rsvp_messages.specs.declared.message.ResvMsg.{ResvMsg}
 use Rattle.style_rules.specs.Lines.{NextHop}
-use Rattle.laws_bounds.specs.LawsInputs.RouterRules.declared.answers.Heard.TheVariants as heard
-use Rattle.laws_bounds.specs.LawsInputs.RouterRules.Asking.{taking, as_listed}
-use Rattle.laws_bounds.specs.LawsInputs.RouterRules.Bounds.{IsWithinBounds}
-use Rattle.laws_bounds.specs.LawsInputs.RouterRules.Errors.{blamed}
-use Rattle.laws_bounds.specs.LawsInputs.RouterRules.Facts.{Facts, ResvState, Walls, resvs_of}
-use Rattle.laws_bounds.specs.LawsInputs.RouterRules.Inputs.{Came, ErrSend, Input, Send, Spelt}
-use Rattle.laws_bounds.specs.LawsInputs.RouterRules.Known.{Lane}
-use Rattle.laws_bounds.specs.LawsInputs.RouterRules.NodeConfig.{NodeConfig, own}
-use Rattle.laws_bounds.specs.LawsInputs.RouterRules.Requests.{toward}
-use Rattle.laws_bounds.specs.LawsInputs.RouterRules.Rule.{rule}
-use Rattle.laws_bounds.specs.LawsInputs.RouterRules.Sends.{error_send}
-use Rattle.laws_bounds.specs.LawsInputs.FactLaws.{ComesBy}
-use Rattle.laws_bounds.specs.LawsInputs.RouterRules.Steps.{NodeStep, Begins, sent_by}
+use Rattle.laws_bounds.specs.RouterRules.declared.answers.Heard.TheVariants as heard
+use Rattle.laws_bounds.specs.RouterRules.Asking.{taking, as_listed}
+use Rattle.laws_bounds.specs.RouterRules.Bounds.{IsWithinBounds}
+use Rattle.laws_bounds.specs.RouterRules.Errors.{blamed}
+use Rattle.laws_bounds.specs.RouterRules.Facts.{Facts, ResvState, Walls, resvs_of}
+use Rattle.laws_bounds.specs.RouterRules.Inputs.{Came, ErrSend, Input, Send, Spelt}
+use Rattle.laws_bounds.specs.RouterRules.Known.{Lane}
+use Rattle.laws_bounds.specs.RouterRules.NodeConfig.{NodeConfig, own}
+use Rattle.laws_bounds.specs.RouterRules.Requests.{toward}
+use Rattle.laws_bounds.specs.RouterRules.Rule.{rule}
+use Rattle.laws_bounds.specs.RouterRules.Sends.{error_send}
+use Rattle.laws_bounds.specs.FactLaws.{ComesBy}
+use Rattle.laws_bounds.specs.RouterRules.Steps.{NodeStep, Begins, sent_by}
 use Rattle.laws_steps.specs.ReservationLaws.{IsListed}
 
 -- ---- where an error with a flow comes from

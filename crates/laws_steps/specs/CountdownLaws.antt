@@ -3,11 +3,11 @@ use Rattle.std.specs.Prelude.{◌≡◌, ℕ, ◌+◌, ◌*◌, ◌%◌, ◌≤�
 use Rattle.rsvp_base.specs.declared.session.Sender.{Sender}
 use Rattle.rsvp_base.specs.declared.session.Session.{Session}
 use Rattle.rsvp_base.specs.Table.{get, has}
-use Rattle.laws_bounds.specs.LawsInputs.RouterRules.Facts.{Facts}
-use Rattle.laws_bounds.specs.LawsInputs.RouterRules.Inputs.{Input, Wait, Clear}
-use Rattle.laws_bounds.specs.LawsInputs.RouterRules.Known.{known}
-use Rattle.laws_bounds.specs.LawsInputs.RouterRules.NodeConfig.{NodeConfig, period}
-use Rattle.laws_bounds.specs.LawsInputs.RouterRules.Steps.{is_calm, NodeStep, Begins, left_by, fired_by}
+use Rattle.laws_bounds.specs.RouterRules.Facts.{Facts}
+use Rattle.laws_bounds.specs.RouterRules.Inputs.{Input, Wait, Clear}
+use Rattle.laws_bounds.specs.RouterRules.Known.{known}
+use Rattle.laws_bounds.specs.RouterRules.NodeConfig.{NodeConfig, period}
+use Rattle.laws_bounds.specs.RouterRules.Steps.{is_calm, NodeStep, Begins, left_by, fired_by}
 
 -- a wait reached the moment t, and it moved by half a period and up to one more
 pub record IsMoved (p : NodeConfig) (c : ℕ) (i : Input) (t to : ℕ) : Type 0 where

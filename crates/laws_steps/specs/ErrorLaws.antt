@@ -7,15 +7,15 @@ use Rattle.rsvp_messages.specs.declared.message.Message.{Message}
 use Rattle.rsvp_messages.specs.declared.message.Message.TheVariants as message
 use Rattle.rsvp_messages.specs.declared.message.PathErrMsg.{PathErrMsg}
 use Rattle.rsvp_messages.specs.declared.message.ResvErrMsg.{ResvErrMsg}
-use Rattle.laws_bounds.specs.LawsInputs.RouterRules.Bounds.{IsWithinBounds}
-use Rattle.laws_bounds.specs.LawsInputs.RouterRules.Errors.{blockade_of, is_admission, walled_by}
-use Rattle.laws_bounds.specs.LawsInputs.RouterRules.Facts.{Blockade, Facts}
+use Rattle.laws_bounds.specs.RouterRules.Bounds.{IsWithinBounds}
+use Rattle.laws_bounds.specs.RouterRules.Errors.{blockade_of, is_admission, walled_by}
+use Rattle.laws_bounds.specs.RouterRules.Facts.{Blockade, Facts}
 use Rattle.style_rules.specs.Targets.{WallKey}
-use Rattle.laws_bounds.specs.LawsInputs.RouterRules.Inputs.{Came, Input, Spelt}
-use Rattle.laws_bounds.specs.LawsInputs.RouterRules.NodeConfig.{NodeConfig, own}
-use Rattle.laws_bounds.specs.LawsInputs.FactLaws.{ComesBy}
-use Rattle.laws_bounds.specs.LawsInputs.Frames.{AreSameButMarks}
-use Rattle.laws_bounds.specs.LawsInputs.RouterRules.Steps.{facts_then, NodeStep, Begins, left_by}
+use Rattle.laws_bounds.specs.RouterRules.Inputs.{Came, Input, Spelt}
+use Rattle.laws_bounds.specs.RouterRules.NodeConfig.{NodeConfig, own}
+use Rattle.laws_bounds.specs.FactLaws.{ComesBy}
+use Rattle.laws_bounds.specs.Frames.{AreSameButMarks}
+use Rattle.laws_bounds.specs.RouterRules.Steps.{facts_then, NodeStep, Begins, left_by}
 use Rattle.rsvp_base.specs.declared.addr.Addr.{Addr}
 use Rattle.rsvp_base.specs.declared.session.Sender.{Sender}
 

@@ -12,20 +12,20 @@ use Rattle.rsvp_base.specs.Table.{get, has, put_in}
 use Rattle.rsvp_messages.specs.declared.message.Message.TheVariants as message
 use Rattle.rsvp_messages.specs.declared.message.ResvMsg.{ResvMsg}
 use Rattle.style_rules.specs.Lines.{Line, LineKey}
-use Rattle.laws_bounds.specs.LawsInputs.RouterRules.Asking.{ask_of, asker_of}
-use Rattle.laws_bounds.specs.LawsInputs.RouterRules.Bounds.{IsWithinBounds}
+use Rattle.laws_bounds.specs.RouterRules.Asking.{ask_of, asker_of}
+use Rattle.laws_bounds.specs.RouterRules.Bounds.{IsWithinBounds}
 use Rattle.style_rules.specs.declared.target.Target.TheVariants as target
-use Rattle.laws_bounds.specs.LawsInputs.RouterRules.Facts.{Blockade, Facts, PathState, ResvState, SenderKey, no_facts}
+use Rattle.laws_bounds.specs.RouterRules.Facts.{Blockade, Facts, PathState, ResvState, SenderKey, no_facts}
 use Rattle.style_rules.specs.Targets.{WallKey}
-use Rattle.laws_bounds.specs.LawsInputs.RouterRules.Inputs.{Input, Came, Moved, Spelt, StalePath, StaleResv, StaleWall, Wait}
-use Rattle.laws_bounds.specs.LawsInputs.RouterRules.Known.{Lane}
+use Rattle.laws_bounds.specs.RouterRules.Inputs.{Input, Came, Moved, Spelt, StalePath, StaleResv, StaleWall, Wait}
+use Rattle.laws_bounds.specs.RouterRules.Known.{Lane}
 use Rattle.router_examples.specs.ThreeRouters.{error, first, flow, group, node_r, path, path_tear, r1, r2, refreshed, resv, resv_err, s1, scope, sent, session, t1, usual, wild}
-use Rattle.laws_bounds.specs.LawsInputs.RouterRules.NodeConfig.{NodeConfig}
-use Rattle.laws_bounds.specs.LawsInputs.RouterRules.Requests.{toward}
-use Rattle.laws_bounds.specs.LawsInputs.Frames.{on_paths, on_resvs, on_senders, on_walls, on_wants}
-use Rattle.laws_bounds.specs.LawsInputs.Sources.{CameOnTree, said_by}
+use Rattle.laws_bounds.specs.RouterRules.NodeConfig.{NodeConfig}
+use Rattle.laws_bounds.specs.RouterRules.Requests.{toward}
+use Rattle.laws_bounds.specs.Frames.{on_paths, on_resvs, on_senders, on_walls, on_wants}
+use Rattle.laws_bounds.specs.Sources.{CameOnTree, said_by}
 use Rattle.laws_steps.specs.PathLaws.{PathDies, PathIsTorn}
-use Rattle.laws_bounds.specs.LawsInputs.RouterRules.Steps.{AreFewer, IsFit, IsFitStale, IsSameNode, facts_then, fired_then, is_calm, sent_then}
+use Rattle.laws_bounds.specs.RouterRules.Steps.{AreFewer, IsFit, IsFitStale, IsSameNode, facts_then, fired_then, is_calm, sent_then}
 use Rattle.laws_steps.specs.AcceptingLaws.{CanBeHeld, CanBeTaken, line_at}
 use Rattle.laws_steps.specs.ErrorLaws.{only_goes_on}
 

@@ -1,8 +1,8 @@
 -- What an input leaves as it is: the claims of the public laws.
 use Rattle.std.specs.Prelude.{◌≡◌, true, false}
-use Rattle.laws_bounds.specs.LawsInputs.RouterRules.Forgetting.{forget}
-use Rattle.laws_bounds.specs.LawsInputs.RouterRules.Steps.{is_calm, NodeStep, Begins, left_by}
-use Rattle.laws_bounds.specs.LawsInputs.Frames.{AreSameButMarks, on_advertised, on_senders, on_wants, on_paths, on_resvs, on_walls}
+use Rattle.laws_bounds.specs.RouterRules.Forgetting.{forget}
+use Rattle.laws_bounds.specs.RouterRules.Steps.{is_calm, NodeStep, Begins, left_by}
+use Rattle.laws_bounds.specs.Frames.{AreSameButMarks, on_advertised, on_senders, on_wants, on_paths, on_resvs, on_walls}
 
 -- ---- frames, one for each table
 pub record LeftAsItWas : Type 0 where

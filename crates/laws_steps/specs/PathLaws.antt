@@ -5,15 +5,15 @@ use Rattle.rsvp_base.specs.SessionLimits.{IsWithinSessionLimits}
 use Rattle.rsvp_base.specs.Table.{get, put_in}
 use Rattle.rsvp_messages.specs.declared.message.Message.TheVariants as message
 use Rattle.rsvp_messages.specs.declared.message.PathTearMsg.{PathTearMsg}
-use Rattle.laws_bounds.specs.LawsInputs.RouterRules.declared.answers.Heard.TheVariants as heard
-use Rattle.laws_bounds.specs.LawsInputs.RouterRules.declared.answers.Why.TheVariants as why
-use Rattle.laws_bounds.specs.LawsInputs.RouterRules.Facts.{Facts, PathState, SenderKey}
-use Rattle.laws_bounds.specs.LawsInputs.RouterRules.Inputs.{Input, Wait, Clear, Came, Spelt}
-use Rattle.laws_bounds.specs.LawsInputs.RouterRules.Known.{came_by}
-use Rattle.laws_bounds.specs.LawsInputs.RouterRules.NodeConfig.{NodeConfig}
-use Rattle.laws_bounds.specs.LawsInputs.RouterRules.Rule.{rule}
-use Rattle.laws_bounds.specs.LawsInputs.RouterRules.Steps.{NodeStep, Begins, left_by}
-use Rattle.laws_bounds.specs.LawsInputs.Sources.{CameOnTree, said_by, IsLearnt}
+use Rattle.laws_bounds.specs.RouterRules.declared.answers.Heard.TheVariants as heard
+use Rattle.laws_bounds.specs.RouterRules.declared.answers.Why.TheVariants as why
+use Rattle.laws_bounds.specs.RouterRules.Facts.{Facts, PathState, SenderKey}
+use Rattle.laws_bounds.specs.RouterRules.Inputs.{Input, Wait, Clear, Came, Spelt}
+use Rattle.laws_bounds.specs.RouterRules.Known.{came_by}
+use Rattle.laws_bounds.specs.RouterRules.NodeConfig.{NodeConfig}
+use Rattle.laws_bounds.specs.RouterRules.Rule.{rule}
+use Rattle.laws_bounds.specs.RouterRules.Steps.{NodeStep, Begins, left_by}
+use Rattle.laws_bounds.specs.Sources.{CameOnTree, said_by, IsLearnt}
 
 -- ---- it was there, or a Path brought it
 abbrev pub WhereAPathFactComesFrom : Type 0

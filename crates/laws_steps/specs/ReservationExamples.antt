@@ -10,12 +10,12 @@ use Rattle.rsvp_base.specs.Table.{get, has}
 use Rattle.rsvp_base.specs.TokenBucket.{TokenBucket}
 use Rattle.rsvp_messages.specs.declared.ask.Tear.TheVariants as tear
 use Rattle.rsvp_messages.specs.declared.message.Message.TheVariants as message
-use Rattle.laws_bounds.specs.LawsInputs.RouterRules.Bounds.{IsWithinBounds}
-use Rattle.laws_bounds.specs.LawsInputs.RouterRules.Facts.{resvs_of}
-use Rattle.laws_bounds.specs.LawsInputs.RouterRules.Inputs.{Came, Input, Spelt, Wait}
+use Rattle.laws_bounds.specs.RouterRules.Bounds.{IsWithinBounds}
+use Rattle.laws_bounds.specs.RouterRules.Facts.{resvs_of}
+use Rattle.laws_bounds.specs.RouterRules.Inputs.{Came, Input, Spelt, Wait}
 use Rattle.router_examples.specs.ThreeRouters.{error, flow, r1, r2, resv, resv_err, s1, scope, sent, session, t1, usual, wild}
-use Rattle.laws_bounds.specs.LawsInputs.RouterRules.Requests.{toward}
-use Rattle.laws_bounds.specs.LawsInputs.RouterRules.Steps.{facts_then, sent_then, node_step}
+use Rattle.laws_bounds.specs.RouterRules.Requests.{toward}
+use Rattle.laws_bounds.specs.RouterRules.Steps.{facts_then, sent_then, node_step}
 use Rattle.laws_steps.specs.Examples.{back, of_t, one_path, one_resv, r, reserved, resv_in}
 use Rattle.laws_steps.specs.ReservationLaws.{IsKnownThen, Touches}
 

@@ -17,18 +17,18 @@ use Rattle.rsvp_messages.specs.declared.message.ResvTearMsg.{ResvTearMsg}
 use Rattle.rsvp_messages.specs.Units.{AskedUnit, ask_style, asked_units, tear_names, tear_style}
 use Rattle.style_rules.specs.Lines.{LineKey}
 use Rattle.style_rules.specs.Parts.{has_name}
-use Rattle.laws_bounds.specs.LawsInputs.RouterRules.Asking.{ask_of, asker_of, matched, stays}
-use Rattle.laws_bounds.specs.LawsInputs.RouterRules.Facts.{Facts, ResvState, resvs_of}
-use Rattle.laws_bounds.specs.LawsInputs.RouterRules.Forgetting.{is_lost}
-use Rattle.laws_bounds.specs.LawsInputs.RouterRules.Inputs.{Call, Came, Clear, Input, Moved, Send, Spelt, Unspelt, Wait}
-use Rattle.laws_bounds.specs.LawsInputs.RouterRules.Known.{Lane, known, lanes, named_as, names_via}
-use Rattle.laws_bounds.specs.LawsInputs.RouterRules.NodeConfig.{NodeConfig, lifetime, own, period}
-use Rattle.laws_bounds.specs.LawsInputs.RouterRules.Requests.{toward}
-use Rattle.laws_bounds.specs.LawsInputs.RouterRules.Sends.{hop_to, tear_of}
-use Rattle.laws_bounds.specs.LawsInputs.FactLaws.{ComesBy}
-use Rattle.laws_bounds.specs.LawsInputs.SendLaws.{IsGone}
-use Rattle.laws_bounds.specs.LawsInputs.RuleLaws.{IsLeft}
-use Rattle.laws_bounds.specs.LawsInputs.RouterRules.Steps.{IsLeftOf, NodeStep, Begins, left_by, sent_by, fired_by}
+use Rattle.laws_bounds.specs.RouterRules.Asking.{ask_of, asker_of, matched, stays}
+use Rattle.laws_bounds.specs.RouterRules.Facts.{Facts, ResvState, resvs_of}
+use Rattle.laws_bounds.specs.RouterRules.Forgetting.{is_lost}
+use Rattle.laws_bounds.specs.RouterRules.Inputs.{Call, Came, Clear, Input, Moved, Send, Spelt, Unspelt, Wait}
+use Rattle.laws_bounds.specs.RouterRules.Known.{Lane, known, lanes, named_as, names_via}
+use Rattle.laws_bounds.specs.RouterRules.NodeConfig.{NodeConfig, lifetime, own, period}
+use Rattle.laws_bounds.specs.RouterRules.Requests.{toward}
+use Rattle.laws_bounds.specs.RouterRules.Sends.{hop_to, tear_of}
+use Rattle.laws_bounds.specs.FactLaws.{ComesBy}
+use Rattle.laws_bounds.specs.SendLaws.{IsGone}
+use Rattle.laws_bounds.specs.RuleLaws.{IsLeft}
+use Rattle.laws_bounds.specs.RouterRules.Steps.{IsLeftOf, NodeStep, Begins, left_by, sent_by, fired_by}
 
 -- ---- where a reservation comes from
 -- names that are listed; all are where there is no list

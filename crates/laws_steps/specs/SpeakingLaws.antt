@@ -10,17 +10,17 @@ use Rattle.rsvp_messages.specs.declared.message.Message.TheVariants as message
 use Rattle.rsvp_messages.specs.declared.message.PathMsg.{PathMsg}
 use Rattle.rsvp_messages.specs.declared.message.PathTearMsg.{PathTearMsg}
 use Rattle.rsvp_messages.specs.declared.message.ResvMsg.{ResvMsg}
-use Rattle.laws_bounds.specs.LawsInputs.RouterRules.Asking.{ask_of}
-use Rattle.laws_bounds.specs.LawsInputs.RouterRules.Facts.{Facts}
-use Rattle.laws_bounds.specs.LawsInputs.RouterRules.Inputs.{Input, Send, Wait}
-use Rattle.laws_bounds.specs.LawsInputs.RouterRules.Known.{Lane, known}
-use Rattle.laws_bounds.specs.LawsInputs.RouterRules.Offers.{Offer, OfferKey, offer_at, offers}
-use Rattle.laws_bounds.specs.LawsInputs.RouterRules.NodeConfig.{NodeConfig, goes_out, own, period}
-use Rattle.laws_bounds.specs.LawsInputs.RouterRules.Requests.{toward}
-use Rattle.laws_bounds.specs.LawsInputs.RouterRules.Sends.{is_new_offer, path_send, resv_send, told_at}
-use Rattle.laws_bounds.specs.LawsInputs.FactLaws.{is_way}
-use Rattle.laws_bounds.specs.LawsInputs.RouterRules.Steps.{fired_then, NodeStep, Begins, left_by, sent_by, fired_by}
-use Rattle.laws_bounds.specs.LawsInputs.Sources.{IsLocalOffer, IsPathOffer}
+use Rattle.laws_bounds.specs.RouterRules.Asking.{ask_of}
+use Rattle.laws_bounds.specs.RouterRules.Facts.{Facts}
+use Rattle.laws_bounds.specs.RouterRules.Inputs.{Input, Send, Wait}
+use Rattle.laws_bounds.specs.RouterRules.Known.{Lane, known}
+use Rattle.laws_bounds.specs.RouterRules.Offers.{Offer, OfferKey, offer_at, offers}
+use Rattle.laws_bounds.specs.RouterRules.NodeConfig.{NodeConfig, goes_out, own, period}
+use Rattle.laws_bounds.specs.RouterRules.Requests.{toward}
+use Rattle.laws_bounds.specs.RouterRules.Sends.{is_new_offer, path_send, resv_send, told_at}
+use Rattle.laws_bounds.specs.FactLaws.{is_way}
+use Rattle.laws_bounds.specs.RouterRules.Steps.{fired_then, NodeStep, Begins, left_by, sent_by, fired_by}
+use Rattle.laws_bounds.specs.Sources.{IsLocalOffer, IsPathOffer}
 
 -- ---- a Path that is sent is of an offer after the step: its sender is known then, and its tree goes out of the interface,
 -- which is there. It goes to the group, its hop is the node's own address of the interface, and its ADSPEC what the interface makes of

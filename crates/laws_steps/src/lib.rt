@@ -2,7 +2,7 @@
 //! come from and how they go, how countdowns move, what is sent and why, and which Resvs are accepted.
 //!
 //! The statements are definitions in `specs/`; each public function has an empty body and a law as its promise. In `examples` stand
-//! facts and inputs that meet the premises. It stands on `laws_bounds`, and by it on `laws_inputs` and `router_rules`.
+//! facts and inputs that meet the premises. It stands on `laws_bounds`, and by it on `router_rules`.
 #![tactic(auto)]
 
 pub mod acceptance;

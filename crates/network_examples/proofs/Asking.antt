@@ -41,7 +41,7 @@ use Rattle.router_rules.specs.Inputs.{Arrival, Spelt, Unspelt}
 use Rattle.router_rules.specs.NodeConfig.{is_addr, is_session}
 use Rattle.router_rules.specs.Sends.{same_flow}
 use Rattle.router_examples.specs.ThreeRouters.{s1, r1, session, first, usual}
-use Rattle.laws_inputs.proofs.Tests.{addr_told, flow_told, session_told}
+use Rattle.laws_bounds.proofs.Tests.{addr_told, flow_told, session_told}
 use Rattle.tree_model.specs.declared.hops.End.{End}
 use Rattle.tree_model.specs.declared.hops.LinkHop.{LinkHop}
 use Rattle.tree_model.specs.declared.locals.LocalSender.{LocalSender}

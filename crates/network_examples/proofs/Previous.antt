@@ -8,7 +8,7 @@ use Rattle.rsvp_base.specs.Orders.{Names}
 use Rattle.rsvp_base.specs.Table.{empty, get, size}
 use Rattle.style_rules.specs.Lines.{LineKey}
 use Rattle.style_rules.specs.Merge.{PartTable}
-use Rattle.laws_inputs.specs.FactLaws.{ComesBy}
+use Rattle.laws_bounds.specs.FactLaws.{ComesBy}
 use Rattle.router_rules.specs.Facts.{Facts, ResvState, no_facts, resvs_of}
 use Rattle.router_rules.specs.Inputs.{WantAs}
 use Rattle.router_rules.specs.Known.{names_via}

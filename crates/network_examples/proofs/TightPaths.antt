@@ -26,7 +26,7 @@ use Rattle.router_rules.specs.NodeConfig.{is_addr, is_session}
 use Rattle.router_rules.specs.Rule.{facts_with}
 use Rattle.router_rules.specs.Sends.{same_flow}
 use Rattle.router_rules.specs.Steps.{IsFitStale}
-use Rattle.laws_inputs.proofs.Tests.{addr_told, flow_told, session_told}
+use Rattle.laws_bounds.proofs.Tests.{addr_told, flow_told, session_told}
 use Rattle.router_examples.specs.ThreeRouters.{first, session}
 use Rattle.tree_model.specs.Trees.{trees_of}
 use Rattle.tree_model.proofs.Following.{same_number}

@@ -2,8 +2,8 @@
 use Rattle.std.proofs.Common.{◌≡◌, ℕ, ◌≤◌, length, refl, sym, subst, arith}
 use Rattle.std.specs.Prelude.{fold}
 use Rattle.laws_bounds.proofs.Bounded.{a_step_keeps_a_node_within_bounds}
-use Rattle.laws_counts.proofs.AllSends.{few_are_sent}
-use Rattle.laws_counts.specs.CountLaws.{IsFewInput}
+use Rattle.laws_bounds.proofs.AllSends.{few_are_sent}
+use Rattle.laws_bounds.specs.CountLaws.{IsFewInput}
 use Rattle.network_replay.specs.Following.{Seen}
 use Rattle.router_rules.proofs.Fronting.{fronts_are_the_rule}
 use Rattle.router_rules.specs.Bounds.{IsWithinBounds}

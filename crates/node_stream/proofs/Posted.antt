@@ -2,7 +2,7 @@
 use Rattle.std.proofs.Common.{◌≡◌, ℕ, ◌+◌, ◌<◌, ◌≤◌, Bool, true, false, List, [], ◌∷◌, ◌++◌, length, refl, sym, ap, ap₂, subst, ◌∙◌, append-nil, append_assoc, arith}
 use Rattle.std.specs.Prelude.{cond, fold, nat_lt}
 use Rattle.std.proofs.lemmas.Bool.{lt-ltb, ltb-true}
-use Rattle.laws_counts.specs.CountLaws.{most_sends}
+use Rattle.laws_bounds.specs.CountLaws.{most_sends}
 use Rattle.router_rules.specs.Inputs.{Send}
 use Rattle.node_stream.specs.Posting.{Posted, nothing_posted, with_post}
 use Rattle.node_stream.specs.Serving.{frame_with, frames_with}

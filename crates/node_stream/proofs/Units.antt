@@ -1,7 +1,7 @@
 -- A message in range lists few.
 use Rattle.std.proofs.Common.{◌≡◌, ◌≤◌, true, length, arith}
 use Rattle.std.proofs.lemmas.List.{length-map}
-use Rattle.laws_counts.specs.CountLaws.{HasFewUnits}
+use Rattle.laws_bounds.specs.CountLaws.{HasFewUnits}
 use Rattle.message_encode.proofs.Testing.{range_is_known}
 use Rattle.message_encode.specs.Encoding.{IsAskFew, IsFew}
 use Rattle.message_encode.specs.Written.{is_in_range}

@@ -1,6 +1,6 @@
 -- The outbox of a stream: the frames of what is posted, as many as there is room for.
 use Rattle.std.specs.Prelude.{ℕ, ◌+◌, nat_lt, List, [], ◌++◌, cond}
-use Rattle.laws_counts.specs.CountLaws.{most_sends}
+use Rattle.laws_bounds.specs.CountLaws.{most_sends}
 use Rattle.router_rules.specs.Inputs.{Send}
 use Rattle.node_stream.specs.Serving.{frame_with}
 

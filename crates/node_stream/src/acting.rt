@@ -1,6 +1,6 @@
 //! A router does what a frame says.
 ghost use Rattle.std.specs.Prelude.{◌≡◌, ◌≤◌, ◌<◌, ◌+◌, ◌*◌, [], ℕ, length, true, None, Some, IfOk, IfErr, OnOk};
-ghost use Rattle.laws_counts.specs.CountLaws.{most_sends};
+ghost use Rattle.laws_bounds.specs.CountLaws.{most_sends};
 ghost use Rattle.node_stream.specs.Layout as layout;
 ghost use Rattle.node_stream.specs.Blames.{IsOpenBlame};
 ghost use Rattle.node_stream.specs.Rules.{IsInRange, IsInTurn, IsPlace, place_in};

@@ -1,6 +1,6 @@
 //! The answers that wait to be written.
 ghost use Rattle.std.specs.Prelude.{◌≡◌, ◌≤◌, ◌+◌, ◌++◌, IfOk};
-ghost use Rattle.laws_counts.specs.CountLaws.{most_sends};
+ghost use Rattle.laws_bounds.specs.CountLaws.{most_sends};
 ghost use Rattle.node_stream.specs.Answers.{heard_frame};
 ghost use Rattle.node_stream.specs.Posting.{nothing_posted, with_post};
 
@@ -31,7 +31,7 @@ pub struct Answers {
 
 impl Model for Answers {
     ghost use Rattle.std.specs.Prelude.{◌≤◌, ◌+◌, ◌*◌, vec_len, vec_capacity};
-    ghost use Rattle.laws_counts.specs.CountLaws.{most_sends};
+    ghost use Rattle.laws_bounds.specs.CountLaws.{most_sends};
     ghost use Rattle.node_stream.specs.Posting.{Posted};
 
     ghost Value = { Posted };

@@ -8,7 +8,7 @@ use Rattle.rsvp_base.specs.TokenBucket.{TokenBucket}
 use Rattle.router_rules.specs.Facts.{SenderKey}
 use Rattle.router_rules.specs.NodeConfig.{NodeConfig, outward}
 use Rattle.router_rules.specs.Offers.{Offer, advert_of, own_offer}
-use Rattle.laws_inputs.proofs.Tests.{not_new}
+use Rattle.laws_bounds.proofs.Tests.{not_new}
 use Rattle.router_rules.specs.Sends.{is_new_offer, path_send, same_flow}
 use Rattle.laws_sends.specs.Told.{offer_key, told_new}
 use Rattle.laws_sends.proofs.Onward.{none_pass}

@@ -26,8 +26,8 @@ use Rattle.style_rules.specs.Parts.{IsPartAtMost, has_name}
 use Rattle.style_rules.proofs.Merges.{merge_above, merge_least, merge_source}
 use Rattle.router_rules.specs.Books.{book, line_of, lines}
 use Rattle.router_rules.specs.Facts.{Facts, ResvState, resvs_of}
-use Rattle.laws_inputs.proofs.Lists.{passed}
-use Rattle.laws_inputs.proofs.Requesting.{lines_told, to_lines}
+use Rattle.laws_bounds.proofs.Lists.{passed}
+use Rattle.laws_bounds.proofs.Requesting.{lines_told, to_lines}
 use Rattle.router_state.specs.State.{resv_at}
 
 abbrev part_of_line : Line → Part

@@ -9,5 +9,5 @@ pub mod Steps
 pub mod Fits
 pub mod Order
 pub mod Standing
-pub use Rattle.laws_inputs.proofs.Leaving
+pub use Rattle.laws_bounds.proofs.Leaving
 pub use Rattle.router_state.proofs as RouterState

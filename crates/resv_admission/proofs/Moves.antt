@@ -38,8 +38,8 @@ use Rattle.style_rules.proofs.StyleLaws.{a_name, unit_of_names}
 use Rattle.router_rules.specs.Asking.{names_one, torn_resv, stays as rule_stays, with_part as state_with}
 use Rattle.router_rules.specs.Books.{book}
 use Rattle.router_rules.specs.Facts.{Facts, ResvState, Resvs, resvs_of, with_resvs}
-use Rattle.laws_inputs.proofs.Lists.{has_some}
-use Rattle.laws_inputs.proofs.Leaving.{as_it_was, table_other, table_put}
+use Rattle.laws_bounds.proofs.Lists.{has_some}
+use Rattle.laws_bounds.proofs.Leaving.{as_it_was, table_other, table_put}
 use Rattle.router_state.specs.State.{resv_at}
 use Rattle.router_state.proofs.Passing.{changed_same, changed_twice}
 use Rattle.resv_admission.specs.Kept.{IsBookOf, IsBookWith, MovesWith, facts_with, flow_in}

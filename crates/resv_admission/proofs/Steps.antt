@@ -33,7 +33,7 @@ use Rattle.router_rules.specs.Asking.{resv_state, table_with, take_unit, take_un
 use Rattle.router_rules.specs.Books.{book, fits, refused}
 use Rattle.router_rules.specs.Facts.{Facts, Resvs, resvs_of, with_resvs}
 use Rattle.router_rules.specs.NodeConfig.{NodeConfig}
-use Rattle.laws_inputs.proofs.Leaving.{as_it_was, table_put}
+use Rattle.laws_bounds.proofs.Leaving.{as_it_was, table_put}
 use Rattle.router_state.specs.State.{resv_at}
 use Rattle.resv_admission.specs.Kept.{IsBookOf, MovesWith, facts_with, flow_in}
 use Rattle.resv_admission.specs.Placing.{IsBookAmong, chosen, entry_key_of, outcome, placed_in, stands, stood}

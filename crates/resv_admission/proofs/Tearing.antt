@@ -23,7 +23,7 @@ use Rattle.style_rules.specs.Lines.{LineKey, NextHop, is_of_hop, line_keys, next
 use Rattle.style_rules.proofs.StyleLaws.{a_name, unit_of_names}
 use Rattle.router_rules.specs.Asking.{left_of, names_one, stays, torn_resv, torn_resvs}
 use Rattle.router_rules.specs.Facts.{ResvState, Resvs}
-use Rattle.laws_inputs.proofs.Leaving.{left_nobody}
+use Rattle.laws_bounds.proofs.Leaving.{left_nobody}
 use Rattle.router_state.specs.State.{resv_at}
 
 -- tests that agree on the members of a list agree on whether one passes

@@ -16,7 +16,7 @@ use Rattle.rsvp_base.proofs.Members.{in_append}
 use Rattle.rsvp_base.proofs.Tables.{either, tied_self, without_absent}
 use Rattle.style_rules.specs.Lines.{NextHop}
 use Rattle.style_rules.specs.Merge.{PartTable}
-use Rattle.laws_inputs.proofs.Knowing.{lanes_made, lanes_told, via_made, via_told}
+use Rattle.laws_bounds.proofs.Knowing.{lanes_made, lanes_told, via_made, via_told}
 use Rattle.router_rules.specs.Known.{Lane, lane_keys, lanes, via}
 use Rattle.laws_sends.specs.State.{Said, facts_of, said_at}
 use Rattle.laws_sends.specs.Before.{lanes_by}

@@ -18,7 +18,7 @@ use Rattle.rsvp_base.proofs.Fronts.{front_more, got_in, in_keys}
 use Rattle.rsvp_base.proofs.Members.{in_append, in_each, in_left, in_right}
 use Rattle.style_rules.specs.Lines.{NextHop, next_hops}
 use Rattle.router_rules.specs.Inputs.{Send}
-use Rattle.laws_inputs.proofs.Knowing.{lanes_made}
+use Rattle.laws_bounds.proofs.Knowing.{lanes_made}
 use Rattle.router_rules.specs.Known.{lanes}
 use Rattle.router_rules.specs.Requests.{toward}
 use Rattle.laws_sends.specs.State.{Said, State, facts_of, said_at}

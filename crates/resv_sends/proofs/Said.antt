@@ -16,7 +16,7 @@ use Rattle.rsvp_messages.specs.declared.ask.Tear.{Tear}
 use Rattle.rsvp_messages.specs.declared.message.Message.TheVariants as message
 use Rattle.style_rules.specs.Lines.{NextHop}
 use Rattle.style_rules.specs.Merge.{PartTable}
-use Rattle.laws_inputs.proofs.Tests.{parts_tested, parts_told}
+use Rattle.laws_bounds.proofs.Tests.{parts_tested, parts_told}
 use Rattle.router_rules.specs.Asking.{ask_of}
 use Rattle.router_rules.specs.Inputs.{Send}
 use Rattle.router_rules.specs.Known.{Lane}

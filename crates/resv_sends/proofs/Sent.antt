@@ -24,7 +24,7 @@ use Rattle.rsvp_base.proofs.Tables.{get-changed, got_changed, then_do}
 use Rattle.rsvp_base.proofs.UnderLaws.{get-under}
 use Rattle.style_rules.specs.Lines.{NextHop, next_hops}
 use Rattle.style_rules.specs.Toward.{or_else}
-use Rattle.laws_inputs.proofs.Tests.{came_tested, came_told}
+use Rattle.laws_bounds.proofs.Tests.{came_tested, came_told}
 use Rattle.router_rules.specs.Facts.{Facts, PathState, SenderKey, Wants, want_keys}
 use Rattle.router_rules.specs.Inputs.{Asked, Change, Send, only_heard}
 use Rattle.router_rules.specs.Known.{Lane, lanes}

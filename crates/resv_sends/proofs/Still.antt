@@ -8,8 +8,8 @@ use Rattle.rsvp_base.specs.Table.{empty, has, size}
 use Rattle.rsvp_base.specs.declared.session.Session.{Session}
 use Rattle.rsvp_base.proofs.SetLaws.{same_set}
 use Rattle.rsvp_base.proofs.Tables.{either}
-use Rattle.laws_inputs.proofs.Asks.{gone_told}
-use Rattle.laws_inputs.proofs.Tests.{parts_tested}
+use Rattle.laws_bounds.proofs.Asks.{gone_told}
+use Rattle.laws_bounds.proofs.Tests.{parts_tested}
 use Rattle.rsvp_messages.specs.declared.ask.Ask.{Ask}
 use Rattle.style_rules.specs.Merge.{PartTable}
 use Rattle.router_rules.specs.Asking.{ask_of}

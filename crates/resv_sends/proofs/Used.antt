@@ -21,7 +21,7 @@ use Rattle.rsvp_base.proofs.Fronts.{to_keys}
 use Rattle.rsvp_base.proofs.SetLaws.{has-union, or_either, or_right}
 use Rattle.style_rules.specs.Lines.{NextHop}
 use Rattle.style_rules.specs.Merge.{PartTable}
-use Rattle.laws_inputs.proofs.Tests.{parts_tested, parts_told}
+use Rattle.laws_bounds.proofs.Tests.{parts_tested, parts_told}
 use Rattle.router_rules.specs.Sends.{marked_units, same_parts}
 use Rattle.laws_sends.specs.State.{Said, State, facts_of, said_at}
 use Rattle.laws_sends.proofs.Routed.{same_test}

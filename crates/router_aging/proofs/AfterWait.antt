@@ -22,9 +22,9 @@ use Rattle.router_rules.specs.Forgetting.{counted, is_lost, remembered}
 use Rattle.router_rules.specs.Known.{known, named_as}
 use Rattle.router_rules.specs.NodeConfig.{period}
 use Rattle.router_rules.specs.Rule.{settled}
-use Rattle.laws_inputs.proofs.Knowing.{counted_made, counted_told}
-use Rattle.laws_inputs.proofs.Leaving.{countdowns_settle}
-use Rattle.laws_inputs.proofs.Lists.{none_is, some_is}
+use Rattle.laws_bounds.proofs.Knowing.{counted_made, counted_told}
+use Rattle.laws_bounds.proofs.Leaving.{countdowns_settle}
+use Rattle.laws_bounds.proofs.Lists.{none_is, some_is}
 use Rattle.path_sends.specs.RouterState.Forgotten.{forgotten_all, is_gone}
 use Rattle.path_sends.specs.RouterState.State.{IsSettled, State, due_at, facts_of, resv_at}
 use Rattle.path_sends.specs.RouterState.Waited.{aged, later_due}

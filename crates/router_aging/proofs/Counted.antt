@@ -22,8 +22,8 @@ use Rattle.path_state.specs.Paths.{later, path_keys}
 use Rattle.path_state.specs.declared.fact.PathFact.{PathFact}
 use Rattle.router_rules.specs.Facts.{SenderKey, sender_keys}
 use Rattle.router_rules.specs.Forgetting.{counted}
-use Rattle.laws_inputs.proofs.Knowing.{counted_made, counted_told}
-use Rattle.laws_inputs.proofs.Lists.{some_is}
+use Rattle.laws_bounds.proofs.Knowing.{counted_made, counted_told}
+use Rattle.laws_bounds.proofs.Lists.{some_is}
 use Rattle.path_sends.specs.RouterState.State.{IsCounted, State, facts_of}
 use Rattle.path_sends.specs.RouterState.Waited.{aged, later_due}
 use Rattle.router_aging.specs.Passing.{counts, dies_in, dying_paths, sessions_at}

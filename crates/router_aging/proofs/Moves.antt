@@ -12,7 +12,7 @@ use Rattle.rsvp_base.specs.declared.style.StyleKind.TheVariants.{Wild, Fixed, Sh
 use Rattle.resv_state.specs.Leaving.{forgotten}
 use Rattle.resv_state.specs.Resvs.{ResvFacts, ResvMap}
 use Rattle.router_rules.specs.Facts.{Facts, Resvs, SenderKey, resvs_of, with_resvs}
-use Rattle.laws_inputs.proofs.Leaving.{as_it_was, table_put}
+use Rattle.laws_bounds.proofs.Leaving.{as_it_was, table_put}
 use Rattle.resv_admission.specs.Forgotten.{forgotten_all}
 use Rattle.resv_admission.specs.State.{resv_at}
 use Rattle.router_aging.specs.Losing.{lost_at, lost_names}

@@ -24,9 +24,9 @@ use Rattle.router_rules.specs.Facts.{Facts, SenderKey, sender_keys}
 use Rattle.router_rules.specs.Forgetting.{is_lost}
 use Rattle.router_rules.specs.Known.{known, named_as}
 use Rattle.router_rules.specs.NodeConfig.{is_addr}
-use Rattle.laws_inputs.proofs.Knowing.{has-known, named_made, named_told}
-use Rattle.laws_inputs.proofs.Lists.{some_same}
-use Rattle.laws_inputs.proofs.Tests.{addr_tested, addr_told}
+use Rattle.laws_bounds.proofs.Knowing.{has-known, named_made, named_told}
+use Rattle.laws_bounds.proofs.Lists.{some_same}
+use Rattle.laws_bounds.proofs.Tests.{addr_tested, addr_told}
 use Rattle.path_sends.specs.RouterState.Forgotten.{is_gone}
 use Rattle.path_sends.specs.RouterState.State.{State, facts_of, path_at}
 use Rattle.router_aging.specs.Losing.{NamesOfTheDead, lost_at, lost_names}

@@ -31,7 +31,7 @@ use Rattle.router_rules.specs.Facts.{Facts, PathState, SenderKey, sender_keys}
 use Rattle.router_rules.specs.Known.{known}
 use Rattle.router_rules.specs.NodeConfig.{NodeConfig}
 use Rattle.router_rules.specs.Offers.{Offer, own_offer, path_offer}
-use Rattle.laws_inputs.proofs.Knowing.{has-known}
+use Rattle.laws_bounds.proofs.Knowing.{has-known}
 use Rattle.path_sends.specs.RouterState.State.{State, facts_of, path_at}
 use Rattle.laws_sends.specs.Told.{offered, paths_told, tears_told, told_gone}
 use Rattle.laws_sends.specs.Several.{gone_told, known_offers, offers_in, refreshed}

@@ -20,9 +20,9 @@ use Rattle.style_rules.specs.Targets.{wall_keys}
 use Rattle.router_rules.specs.Facts.{Blockade, PathState, ResvState, SenderKey, resvs_of}
 use Rattle.router_rules.specs.Known.{Lane, lanes}
 use Rattle.router_rules.specs.Waiting.{act_wait}
-use Rattle.laws_inputs.proofs.Knowing.{counted_made, has-known, lanes_told}
-use Rattle.laws_inputs.proofs.Leaving.{waiting_leaves_the_living}
-use Rattle.laws_inputs.proofs.Lists.{some_same}
+use Rattle.laws_bounds.proofs.Knowing.{counted_made, has-known, lanes_told}
+use Rattle.laws_bounds.proofs.Leaving.{waiting_leaves_the_living}
+use Rattle.laws_bounds.proofs.Lists.{some_same}
 use Rattle.path_sends.specs.RouterState.State.{IsCounted, State, due_at, facts_of, path_at, resv_at, table_in, wall_at}
 use Rattle.laws_sends.specs.Several.{is_among}
 use Rattle.laws_sends.specs.Waits.{IsUnharmed}

@@ -11,11 +11,11 @@ use Rattle.rsvp_base.specs.declared.session.Session.{Session}
 use Rattle.rsvp_base.specs.declared.session.Sender.{Sender}
 use Rattle.rsvp_base.proofs.SetLaws.{or_either, or_left, or_right}
 use Rattle.rsvp_base.proofs.Tables.{either, get-put_in, get-put_in_same, get-without, same_table, tied_same}
-use Rattle.laws_inputs.proofs.Lists.{none_is}
+use Rattle.laws_bounds.proofs.Lists.{none_is}
 use Rattle.router_rules.specs.Facts.{SenderKey}
 use Rattle.router_rules.specs.Forgetting.{counted}
 use Rattle.router_rules.specs.Known.{known}
-use Rattle.laws_inputs.proofs.Knowing.{counted_made, counted_told, has-known}
+use Rattle.laws_bounds.proofs.Knowing.{counted_made, counted_told, has-known}
 use Rattle.router_state.specs.Changes.{counts_in, due_after, started}
 use Rattle.router_state.specs.State.{IsSettled, State, facts_of, path_at}
 use Rattle.router_state.proofs.Room.{due_room, within_same}

@@ -16,7 +16,7 @@ use Rattle.rsvp_base.specs.declared.style.StyleKind.TheVariants.{Wild, Fixed, Sh
 use Rattle.rsvp_base.proofs.Counts.{has-set_of}
 use Rattle.rsvp_base.proofs.SetLaws.{has-union, same_set}
 use Rattle.router_rules.specs.Known.{named_as}
-use Rattle.laws_inputs.proofs.Knowing.{named_told}
+use Rattle.laws_bounds.proofs.Knowing.{named_told}
 use Rattle.laws_sends.proofs.Lanes.{filter_keys_kept}
 use Rattle.laws_sends.proofs.Via.{set_of_more}
 use Rattle.router_aging.proofs.Adding.{size_next}

@@ -20,7 +20,7 @@ use Rattle.router_rules.specs.Paths.{act_path, act_path_tear, is_path_by, learn,
 use Rattle.router_rules.specs.NodeConfig.{comes_in, lifetime}
 use Rattle.router_rules.specs.declared.answers.Heard.TheVariants as heard
 use Rattle.router_rules.specs.declared.answers.Why.TheVariants as why
-use Rattle.laws_inputs.proofs.Tests.{addr_tested}
+use Rattle.laws_bounds.proofs.Tests.{addr_tested}
 use Rattle.router_state.specs.Changes.{path_came, tear_came, paths_put, paths_without}
 use Rattle.router_state.specs.State.{State, facts_of, path_at}
 use Rattle.router_state.proofs.Room.{room_same}

@@ -15,7 +15,7 @@ use Rattle.rsvp_messages.specs.declared.message.PathMsg.{PathMsg}
 use Rattle.router_rules.specs.Facts.{SenderKey}
 use Rattle.router_rules.specs.NodeConfig.{is_addr, period}
 use Rattle.router_rules.specs.Sends.{same_flow}
-use Rattle.laws_inputs.proofs.Tests.{addr_tested, addr_told, flow_tested, flow_told}
+use Rattle.laws_bounds.proofs.Tests.{addr_tested, addr_told, flow_tested, flow_told}
 use Rattle.router_state.specs.Changes.{started}
 use Rattle.router_state.specs.State.{IsSettled, State}
 use Rattle.router_arrivals.specs.Coming.{fact_of, is_said_again, with_path}

@@ -18,9 +18,9 @@ use Rattle.router_rules.specs.Asking.{Asker, act_resv, asker_of, key_at, matched
 use Rattle.router_rules.specs.Facts.{Facts, ResvState, resvs_of}
 use Rattle.router_rules.specs.Known.{known}
 use Rattle.router_rules.specs.NodeConfig.{NodeConfig, own}
-use Rattle.laws_inputs.specs.AskLaws.{IsOfUnit}
-use Rattle.laws_inputs.proofs.Taking.{units_other, units_source}
-use Rattle.laws_inputs.proofs.Tests.{addr_tested}
+use Rattle.laws_bounds.specs.AskLaws.{IsOfUnit}
+use Rattle.laws_bounds.proofs.Taking.{units_other, units_source}
+use Rattle.laws_bounds.proofs.Tests.{addr_tested}
 use Rattle.router_state.specs.State.{AreNamed}
 use Rattle.router_arrivals.specs.Arriving.{to_node}
 use Rattle.router_arrivals.proofs.TornDown.{with_away, with_named}

@@ -16,8 +16,8 @@ use Rattle.router_rules.specs.Forgetting.{counted, forget, settle}
 use Rattle.router_rules.specs.Known.{known}
 use Rattle.router_rules.specs.NodeConfig.{period}
 use Rattle.router_rules.specs.Rule.{settled}
-use Rattle.laws_inputs.proofs.Knowing.{counted_made, counted_told, has-known}
-use Rattle.laws_inputs.proofs.Leaving.{countdowns_settle}
+use Rattle.laws_bounds.proofs.Knowing.{counted_made, counted_told, has-known}
+use Rattle.laws_bounds.proofs.Leaving.{countdowns_settle}
 use Rattle.router_state.specs.Changes.{started, due_after, recounted}
 use Rattle.router_state.specs.State.{AreNamed, IsSettled, State, due_at, facts_of, path_at}
 use Rattle.router_state.proofs.Counted.{counted_settled}

@@ -22,7 +22,7 @@ use Rattle.router_rules.specs.Facts.{Blockade, Facts, Resvs, resvs_of, with_resv
 use Rattle.router_rules.specs.Inputs.{Stale}
 use Rattle.router_rules.specs.NodeConfig.{NodeConfig}
 use Rattle.router_rules.specs.declared.answers.StaleErr.{StaleErr}
-use Rattle.laws_inputs.proofs.Leaving.{as_it_was}
+use Rattle.laws_bounds.proofs.Leaving.{as_it_was}
 use Rattle.router_state.specs.State.{State, facts_of, resv_at, table_in, wall_at}
 use Rattle.router_state.proofs.Settling.{changed_put}
 use Rattle.router_state.specs.Whole.{IsBooked, state_of}

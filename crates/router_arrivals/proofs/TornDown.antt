@@ -19,7 +19,7 @@ use Rattle.router_rules.specs.Facts.{Facts, ResvState, Resvs, resvs_of, with_res
 use Rattle.router_rules.specs.Inputs.{only_heard}
 use Rattle.router_rules.specs.NodeConfig.{own}
 use Rattle.router_rules.specs.declared.answers.Heard.{Heard}
-use Rattle.laws_inputs.proofs.Tests.{addr_tested}
+use Rattle.laws_bounds.proofs.Tests.{addr_tested}
 use Rattle.router_state.specs.State.{AreNamed, State, facts_of}
 use Rattle.router_aging.proofs.Gone.{left_named}
 use Rattle.router_arrivals.specs.Arriving.{to_node}

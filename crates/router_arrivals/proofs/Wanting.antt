@@ -26,7 +26,7 @@ use Rattle.rsvp_base.proofs.UnderLaws.{get-under}
 use Rattle.router_rules.specs.Calls.{unless, wanted}
 use Rattle.router_rules.specs.Facts.{Want, WantKey, Wants, want_keys}
 use Rattle.router_rules.specs.NodeConfig.{is_session}
-use Rattle.laws_inputs.proofs.Once.{not_below_itself}
+use Rattle.laws_bounds.proofs.Once.{not_below_itself}
 use Rattle.local_state.specs.Wants.{asked_row}
 use Rattle.local_state.specs.declared.wants.LocalWant.{LocalWant}
 use Rattle.router_arrivals.specs.Asked.{fixed_want, is_new}

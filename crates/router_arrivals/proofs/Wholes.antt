@@ -20,7 +20,7 @@ use Rattle.router_rules.specs.Facts.{Facts, Resvs, resvs_of, with_resvs}
 use Rattle.router_rules.specs.Inputs.{ErrSend, in_order, put_in_order}
 use Rattle.router_rules.specs.Known.{known, named_as}
 use Rattle.router_rules.specs.NodeConfig.{NodeConfig, goes_out}
-use Rattle.laws_inputs.proofs.Leaving.{as_it_was}
+use Rattle.laws_bounds.proofs.Leaving.{as_it_was}
 use Rattle.router_state.specs.State.{resv_at}
 use Rattle.resv_admission.specs.Kept.{IsBookOf}
 use Rattle.resv_admission.specs.Order.{first_refused}

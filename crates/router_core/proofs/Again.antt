@@ -29,7 +29,7 @@ use Rattle.router_rules.specs.Rule.{facts_after, heard_after, sent_after}
 use Rattle.router_rules.specs.Sends.{sends}
 use Rattle.router_rules.specs.declared.answers.Heard.{Heard}
 use Rattle.router_rules.specs.declared.answers.Heard.TheVariants as heard
-use Rattle.laws_inputs.proofs.Tests.{addr_tested, came_told, not_new}
+use Rattle.laws_bounds.proofs.Tests.{addr_tested, came_told, not_new}
 use Rattle.router_state.specs.Changes.{path_came}
 use Rattle.router_state.specs.State.{IsSaid, IsSettled, Said, State, facts_at, facts_of, path_at}
 use Rattle.router_state.proofs.Settling.{has_changed}

@@ -18,7 +18,7 @@ use Rattle.rsvp_base.specs.declared.style.StyleKind.{StyleKind}
 use Rattle.rsvp_base.specs.declared.style.StyleKind.TheVariants.{Wild, Fixed, Shared}
 use Rattle.rsvp_base.proofs.Tables.{either, get-without, tied_self}
 use Rattle.style_rules.specs.Merge.{PartTable}
-use Rattle.laws_inputs.proofs.Requesting.{nowhere}
+use Rattle.laws_bounds.proofs.Requesting.{nowhere}
 use Rattle.router_rules.specs.Books.{book}
 use Rattle.router_rules.specs.Calls.{act_clear}
 use Rattle.router_rules.specs.Facts.{ResvState, resvs_of}

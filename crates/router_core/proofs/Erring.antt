@@ -14,7 +14,7 @@ use Rattle.router_rules.specs.NodeConfig.{is_own, own}
 use Rattle.router_rules.specs.Rule.{facts_after, heard_after, is_silent, sent_after}
 use Rattle.router_rules.specs.Sends.{conf_sends, error_sends}
 use Rattle.router_rules.specs.declared.answers.Heard.{Heard}
-use Rattle.laws_inputs.proofs.Tests.{addr_tested}
+use Rattle.laws_bounds.proofs.Tests.{addr_tested}
 use Rattle.router_state.specs.State.{IsSettled, State, facts_at, facts_of}
 use Rattle.error_sends.specs.Alone.{only_told}
 use Rattle.error_sends.specs.PathErrs.{path_err_heard, path_err_sent}

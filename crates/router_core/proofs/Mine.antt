@@ -11,7 +11,7 @@ use Rattle.router_rules.specs.Inputs.{Came, Spelt, only_heard}
 use Rattle.router_rules.specs.NodeConfig.{NodeConfig, is_addr, own}
 use Rattle.router_rules.specs.declared.answers.Heard.TheVariants as heard
 use Rattle.router_rules.specs.declared.answers.Why.TheVariants as why
-use Rattle.laws_inputs.proofs.Tests.{addr_told}
+use Rattle.laws_bounds.proofs.Tests.{addr_told}
 use Rattle.router_state.specs.State.{State, facts_of}
 
 -- one that is not for the node

@@ -13,7 +13,7 @@ use Rattle.router_rules.specs.Inputs.{Change}
 use Rattle.router_rules.specs.NodeConfig.{own}
 use Rattle.router_rules.specs.Sends.{error_sends}
 use Rattle.router_rules.specs.declared.answers.Heard.{Heard}
-use Rattle.laws_inputs.proofs.Tests.{addr_tested}
+use Rattle.laws_bounds.proofs.Tests.{addr_tested}
 use Rattle.router_state.specs.State.{State, facts_of}
 use Rattle.error_sends.specs.ResvErrs.{resv_err_facts, resv_err_heard, resv_err_sent}
 use Rattle.resv_sends.specs.Halves.{address_of}

@@ -10,8 +10,8 @@ use Rattle.rsvp_base.proofs.Members.{in_append, to_each}
 use Rattle.rsvp_base.proofs.Tables.{either}
 use Rattle.style_rules.specs.Lines.{next_hops}
 use Rattle.style_rules.specs.Merge.{PartTable}
-use Rattle.laws_inputs.proofs.Lists.{some_is}
-use Rattle.laws_inputs.proofs.Requesting.{nowhere}
+use Rattle.laws_bounds.proofs.Lists.{some_is}
+use Rattle.laws_bounds.proofs.Requesting.{nowhere}
 use Rattle.router_rules.specs.Known.{Lane, lanes}
 use Rattle.router_rules.specs.Requests.{toward}
 use Rattle.router_state.specs.State.{Said, State, facts_of, said_at}

@@ -18,7 +18,7 @@ use Rattle.style_rules.specs.Lines.{NextHop}
 use Rattle.style_rules.specs.Targets.{WallKey, wall_keys}
 use Rattle.style_rules.specs.declared.target.Target.TheVariants as target
 use Rattle.style_rules.specs.declared.wall.Wall.{Wall}
-use Rattle.laws_inputs.proofs.Knowing.{lanes_made, lanes_told, via_made, via_told}
+use Rattle.laws_bounds.proofs.Knowing.{lanes_made, lanes_told, via_made, via_told}
 use Rattle.router_rules.specs.Facts.{Blockade, PathState, wants_in}
 use Rattle.router_rules.specs.Known.{Lane, came_by, lanes, named_as, names_via, via}
 use Rattle.router_rules.specs.NodeConfig.{tree}

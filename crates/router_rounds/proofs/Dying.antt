@@ -21,7 +21,7 @@ use Rattle.style_rules.specs.Lines.{LineKey, line_keys}
 use Rattle.style_rules.specs.Targets.{WallKey, wall_keys}
 use Rattle.style_rules.specs.Toward.{or_else}
 use Rattle.style_rules.specs.declared.wall.Wall.{Wall}
-use Rattle.laws_inputs.proofs.Lists.{some_is}
+use Rattle.laws_bounds.proofs.Lists.{some_is}
 use Rattle.router_rules.specs.Facts.{PathState, SenderKey}
 use Rattle.router_rules.specs.Offers.{Offer, own_offer, path_offer}
 use Rattle.router_state.specs.State.{Said, State, facts_of, path_at, table_in}

@@ -12,7 +12,7 @@ use Rattle.blockade_state.specs.Touched.{Marks, is_touched}
 use Rattle.rsvp_base.specs.Under.{under}
 use Rattle.rsvp_base.specs.declared.session.Session.{Session}
 use Rattle.rsvp_base.proofs.Changed.{unchanged}
-use Rattle.laws_inputs.proofs.Requesting.{nowhere}
+use Rattle.laws_bounds.proofs.Requesting.{nowhere}
 use Rattle.router_rules.specs.Facts.{Want, Wants, want_keys}
 use Rattle.router_rules.specs.Inputs.{Send}
 use Rattle.router_rules.specs.Known.{Lane, lanes}

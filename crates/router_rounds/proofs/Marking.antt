@@ -15,7 +15,7 @@ use Rattle.rsvp_base.proofs.Members.{in_each, in_filter, in_flat_map, to_each, t
 use Rattle.rsvp_base.proofs.SetLaws.{and_both, and_made}
 use Rattle.rsvp_base.proofs.Tables.{either}
 use Rattle.style_rules.specs.Merge.{PartTable}
-use Rattle.laws_inputs.proofs.Tests.{parts_tested}
+use Rattle.laws_bounds.proofs.Tests.{parts_tested}
 use Rattle.router_rules.specs.Facts.{Facts, WantKey, want_keys}
 use Rattle.router_rules.specs.Known.{Lane, lane_keys, lanes}
 use Rattle.router_rules.specs.Requests.{toward}

@@ -13,7 +13,7 @@ use Rattle.rsvp_base.specs.declared.session.Session.{Session}
 use Rattle.rsvp_base.proofs.Counts.{in_found}
 use Rattle.rsvp_base.proofs.Fronts.{front_more}
 use Rattle.rsvp_base.proofs.Tables.{either, got_changed, got_kept}
-use Rattle.laws_inputs.proofs.Once.{keys_rise}
+use Rattle.laws_bounds.proofs.Once.{keys_rise}
 use Rattle.router_state.specs.State.{State, facts_of}
 use Rattle.laws_sends.specs.SendsHere.{hops_in}
 use Rattle.laws_sends.proofs.Saying.{fresh}

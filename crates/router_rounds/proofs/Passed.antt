@@ -20,8 +20,8 @@ use Rattle.rsvp_base.proofs.Tables.{get-changed, get-kept, got_changed, then_do}
 use Rattle.path_state.specs.Paths.{HopSet, hops_by, later, path_keys}
 use Rattle.path_state.specs.declared.fact.PathFact.{PathFact}
 use Rattle.blockade_state.specs.Touched.{Marks, is_touched, touched_at, touched_by}
-use Rattle.laws_inputs.proofs.Lists.{some_is}
-use Rattle.laws_inputs.proofs.Requesting.{nowhere}
+use Rattle.laws_bounds.proofs.Lists.{some_is}
+use Rattle.laws_bounds.proofs.Requesting.{nowhere}
 use Rattle.router_rules.specs.Facts.{SenderKey}
 use Rattle.router_rules.specs.Inputs.{Send, Wait}
 use Rattle.router_rules.specs.Known.{lanes}

@@ -12,8 +12,8 @@ use Rattle.rsvp_base.specs.declared.session.Session.{Session}
 use Rattle.rsvp_base.proofs.Changed.{changed_same}
 use Rattle.rsvp_base.proofs.Filters.{flat_each}
 use Rattle.rsvp_base.proofs.Tables.{either}
-use Rattle.laws_inputs.proofs.Lists.{none_is}
-use Rattle.laws_inputs.proofs.Requesting.{nowhere}
+use Rattle.laws_bounds.proofs.Lists.{none_is}
+use Rattle.laws_bounds.proofs.Requesting.{nowhere}
 use Rattle.router_rules.specs.Facts.{Facts, Want, want_keys}
 use Rattle.router_rules.specs.Inputs.{Send}
 use Rattle.router_rules.specs.Known.{Lane, lanes}

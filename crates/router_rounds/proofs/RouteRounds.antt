@@ -15,8 +15,8 @@ use Rattle.rsvp_base.proofs.Members.{in_each}
 use Rattle.rsvp_base.proofs.SetLaws.{or_right}
 use Rattle.rsvp_base.proofs.Tables.{either}
 use Rattle.style_rules.specs.Toward.{or_else}
-use Rattle.laws_inputs.proofs.Knowing.{counted_made, has-known, lanes_told}
-use Rattle.laws_inputs.proofs.Requesting.{nowhere}
+use Rattle.laws_bounds.proofs.Knowing.{counted_made, has-known, lanes_told}
+use Rattle.laws_bounds.proofs.Requesting.{nowhere}
 use Rattle.router_rules.specs.Act.{act}
 use Rattle.router_rules.specs.Facts.{Facts, PathState, SenderKey, sender_keys}
 use Rattle.router_rules.specs.Inputs.{Change, Moved}

@@ -16,7 +16,7 @@ use Rattle.path_state.specs.Paths.{path_keys}
 use Rattle.resv_state.specs.declared.fact.ResvFact.{ResvFact}
 use Rattle.style_rules.specs.Lines.{LineKey, line_keys, next_hops}
 use Rattle.style_rules.specs.Targets.{wall_keys}
-use Rattle.laws_inputs.proofs.Lists.{some_same}
+use Rattle.laws_bounds.proofs.Lists.{some_same}
 use Rattle.router_rules.specs.Facts.{Blockade, Facts, PathState, ResvState, resvs_of}
 use Rattle.router_rules.specs.Requests.{toward}
 use Rattle.router_state.specs.State.{IsSettled, Said, State, facts_of, path_at, resv_at, table_in, wall_at}

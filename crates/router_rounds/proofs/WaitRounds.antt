@@ -17,9 +17,9 @@ use Rattle.rsvp_base.proofs.Tables.{either, get-changed, got_changed, then_do}
 use Rattle.resv_state.specs.Resvs.{ResvFacts}
 use Rattle.style_rules.specs.Lines.{LineKey, line_keys}
 use Rattle.style_rules.specs.Parts.{has_name}
-use Rattle.laws_inputs.proofs.Knowing.{lanes_made, lanes_told}
-use Rattle.laws_inputs.proofs.Leaving.{waiting_leaves_the_living}
-use Rattle.laws_inputs.proofs.Requesting.{nowhere}
+use Rattle.laws_bounds.proofs.Knowing.{lanes_made, lanes_told}
+use Rattle.laws_bounds.proofs.Leaving.{waiting_leaves_the_living}
+use Rattle.laws_bounds.proofs.Requesting.{nowhere}
 use Rattle.router_rules.specs.Facts.{Facts, ResvState, Resvs, resvs_of}
 use Rattle.router_rules.specs.Forgetting.{counted, forget}
 use Rattle.router_rules.specs.Inputs.{Change, Wait}

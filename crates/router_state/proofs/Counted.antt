@@ -6,11 +6,11 @@ use Rattle.rsvp_base.specs.Orders.{sessions}
 use Rattle.rsvp_base.specs.Table.{get, has}
 use Rattle.rsvp_base.specs.declared.session.Session.{Session}
 use Rattle.rsvp_base.proofs.Tables.{get-changed, same_table, then_do}
-use Rattle.laws_inputs.specs.RouterRules.Facts.{Facts}
-use Rattle.laws_inputs.specs.RouterRules.Forgetting.{counted, forget, settle}
-use Rattle.laws_inputs.specs.RouterRules.NodeConfig.{NodeConfig, period}
-use Rattle.laws_inputs.specs.RouterRules.Rule.{settled}
-use Rattle.laws_inputs.proofs.Leaving.{countdowns_settle}
+use Rattle.laws_bounds.specs.RouterRules.Facts.{Facts}
+use Rattle.laws_bounds.specs.RouterRules.Forgetting.{counted, forget, settle}
+use Rattle.laws_bounds.specs.RouterRules.NodeConfig.{NodeConfig, period}
+use Rattle.laws_bounds.specs.RouterRules.Rule.{settled}
+use Rattle.laws_bounds.proofs.Leaving.{countdowns_settle}
 use Rattle.router_state.specs.State.{IsCounted, IsSettled, State, due_at, facts_of}
 use Rattle.router_state.specs.StateLaws.{SameSettles}
 use Rattle.router_state.proofs.Settling.{forget_none, has_changed, none_lost}

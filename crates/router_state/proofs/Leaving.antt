@@ -24,9 +24,9 @@ use Rattle.resv_state.specs.declared.fact.ResvFact.{ResvFact}
 use Rattle.resv_state.specs.StyleRules.CutLaws.{made_named, part_of_itself}
 use Rattle.resv_state.specs.StyleRules.Lines.{LineKey, line_keys}
 use Rattle.resv_state.specs.StyleRules.Parts.{has_name, part_kept, part_of}
-use Rattle.laws_inputs.specs.RouterRules.Asking.{left_of as state_left}
-use Rattle.laws_inputs.specs.RouterRules.Facts.{Facts}
-use Rattle.laws_inputs.specs.RouterRules.Forgetting.{is_lost, remembered}
+use Rattle.laws_bounds.specs.RouterRules.Asking.{left_of as state_left}
+use Rattle.laws_bounds.specs.RouterRules.Facts.{Facts}
+use Rattle.laws_bounds.specs.RouterRules.Forgetting.{is_lost, remembered}
 use Rattle.router_state.specs.Forgotten.{forgotten_all, is_gone}
 use Rattle.router_state.specs.State.{resv_at}
 use Rattle.router_state.proofs.Passing.{changed_same, changed_twice}

@@ -6,9 +6,9 @@ use Rattle.rsvp_base.specs.declared.style.StyleKind.{StyleKind}
 use Rattle.rsvp_base.specs.declared.style.StyleKind.TheVariants.{Wild, Fixed, Shared}
 use Rattle.resv_state.specs.StyleRules.Lines.{LineKey}
 use Rattle.resv_state.specs.StyleRules.Parts.{has_name}
-use Rattle.laws_inputs.specs.RouterRules.Facts.{ResvState, resvs_of}
-use Rattle.laws_inputs.specs.RouterRules.NodeConfig.{NodeConfig}
-use Rattle.laws_inputs.proofs.Requesting.{nowhere}
+use Rattle.laws_bounds.specs.RouterRules.Facts.{ResvState, resvs_of}
+use Rattle.laws_bounds.specs.RouterRules.NodeConfig.{NodeConfig}
+use Rattle.laws_bounds.proofs.Requesting.{nowhere}
 use Rattle.router_state.specs.State.{IsKept, facts_of, no_state}
 use Rattle.router_state.specs.StateLaws.{NoFactsAreKept}
 

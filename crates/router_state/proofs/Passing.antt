@@ -10,8 +10,8 @@ use Rattle.path_state.specs.Paths.{path_keys}
 use Rattle.resv_state.specs.Resvs.{ResvFacts, later as later_resv}
 use Rattle.resv_state.specs.StyleRules.Lines.{line_keys}
 use Rattle.resv_state.specs.StyleRules.Targets.{wall_keys}
-use Rattle.laws_inputs.specs.RouterRules.Facts.{PathState, ResvState, Blockade}
-use Rattle.laws_inputs.specs.RouterRules.Waiting.{act_wait, living, living_resvs}
+use Rattle.laws_bounds.specs.RouterRules.Facts.{PathState, ResvState, Blockade}
+use Rattle.laws_bounds.specs.RouterRules.Waiting.{act_wait, living, living_resvs}
 use Rattle.router_state.specs.State.{State, facts_of, resv_at, due_at}
 use Rattle.router_state.specs.Waited.{aged, later_due, ticked}
 

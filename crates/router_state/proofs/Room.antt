@@ -16,9 +16,9 @@ use Rattle.std.specs.Ordering.{eq_by_cmp}
 use Rattle.rsvp_base.specs.Under.{under}
 use Rattle.rsvp_base.proofs.UnderLaws.{get-under}
 use Rattle.router_state.proofs.Routed.{same_test}
-use Rattle.laws_inputs.proofs.Lists.{some_is}
-use Rattle.laws_inputs.specs.RouterRules.Facts.{Facts}
-use Rattle.laws_inputs.specs.RouterRules.Forgetting.{counted}
+use Rattle.laws_bounds.proofs.Lists.{some_is}
+use Rattle.laws_bounds.specs.RouterRules.Facts.{Facts}
+use Rattle.laws_bounds.specs.RouterRules.Forgetting.{counted}
 
 module _ {K : Type 0} (o : Keys K) where
   pub in_keys : {X : Type 0} (m : Table o X) (k : K) → has m k ≡ true → In k (keys m)

@@ -6,10 +6,10 @@ use Rattle.std.specs.Ordering.{eq_by_cmp}
 use Rattle.rsvp_base.specs.declared.addr.Addr.{Addr}
 use Rattle.rsvp_base.proofs.SetLaws.{and_both, and_made}
 use Rattle.rsvp_base.proofs.Tables.{tied_same}
-use Rattle.laws_inputs.specs.RouterRules.NodeConfig.{is_addr, route_in}
-use Rattle.laws_inputs.specs.RouterRules.declared.route.Route.{Route}
+use Rattle.laws_bounds.specs.RouterRules.NodeConfig.{is_addr, route_in}
+use Rattle.laws_bounds.specs.RouterRules.declared.route.Route.{Route}
 use Rattle.router_state.specs.Routes.{route_keys, route_row}
-use Rattle.laws_inputs.proofs.Tests.{addr_told, addr_tested, ties}
+use Rattle.laws_bounds.proofs.Tests.{addr_told, addr_tested, ties}
 
 -- tests that pass together are equal
 pub same_test : (x y : Bool) → (x ≡ true → y ≡ true) → (y ≡ true → x ≡ true) → x ≡ y

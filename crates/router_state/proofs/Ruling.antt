@@ -3,12 +3,12 @@ use Rattle.std.specs.Prelude.{◌≡◌, ℕ, Bool, true, false, not, ◌&&◌, 
 use Rattle.std.proofs.Common.{ap, ◌∙◌}
 use Rattle.rsvp_base.specs.Sets.{Set}
 use Rattle.rsvp_base.specs.Table.{changed, get, has}
-use Rattle.laws_inputs.specs.RouterRules.Act.{act}
-use Rattle.laws_inputs.specs.RouterRules.Facts.{Facts, Want, WantKey, Wants, want_keys}
-use Rattle.laws_inputs.specs.RouterRules.Inputs.{Change, Input}
-use Rattle.laws_inputs.specs.RouterRules.NodeConfig.{NodeConfig}
-use Rattle.laws_inputs.specs.RouterRules.Rule.{facts_after, is_silent, settled, unless_silent}
-use Rattle.laws_inputs.specs.RouterRules.Sends.{unmarked, used_marks}
+use Rattle.laws_bounds.specs.RouterRules.Act.{act}
+use Rattle.laws_bounds.specs.RouterRules.Facts.{Facts, Want, WantKey, Wants, want_keys}
+use Rattle.laws_bounds.specs.RouterRules.Inputs.{Change, Input}
+use Rattle.laws_bounds.specs.RouterRules.NodeConfig.{NodeConfig}
+use Rattle.laws_bounds.specs.RouterRules.Rule.{facts_after, is_silent, settled, unless_silent}
+use Rattle.laws_bounds.specs.RouterRules.Sends.{unmarked, used_marks}
 use Rattle.router_state.specs.State.{AreUnmarked}
 use Rattle.router_state.proofs.Settling.{unchanged}
 

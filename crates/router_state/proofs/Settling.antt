@@ -11,11 +11,11 @@ use Rattle.rsvp_base.proofs.Tables.{either, get-changed, get-put_in, same_table,
 use Rattle.std.specs.Ordering.{eq_by_cmp}
 use Rattle.resv_state.specs.StyleRules.Lines.{LineKey, line_keys}
 use Rattle.resv_state.specs.StyleRules.Parts.{has_name}
-use Rattle.laws_inputs.specs.RouterRules.Facts.{Facts, ResvState, resvs_of}
-use Rattle.laws_inputs.specs.RouterRules.Forgetting.{forget, is_lost, remembered}
-use Rattle.laws_inputs.specs.RouterRules.Known.{known, named_as}
-use Rattle.laws_inputs.proofs.Knowing.{named_made, named_told}
-use Rattle.laws_inputs.proofs.Leaving.{left_whole}
+use Rattle.laws_bounds.specs.RouterRules.Facts.{Facts, ResvState, resvs_of}
+use Rattle.laws_bounds.specs.RouterRules.Forgetting.{forget, is_lost, remembered}
+use Rattle.laws_bounds.specs.RouterRules.Known.{known, named_as}
+use Rattle.laws_bounds.proofs.Knowing.{named_made, named_told}
+use Rattle.laws_bounds.proofs.Leaving.{left_whole}
 use Rattle.router_state.specs.State.{AreNamed}
 
 -- ---- tables of which each row is changed

@@ -6,13 +6,13 @@ use Rattle.rsvp_base.specs.Sets.{with_key}
 use Rattle.rsvp_base.specs.Table.{Table, has, put_in, without}
 use Rattle.rsvp_base.specs.TokenBucket.{TokenBucket}
 use Rattle.rsvp_base.specs.declared.session.Session.{Session}
-use Rattle.laws_inputs.specs.RsvpMessages.declared.message.Message.TheVariants as message
-use Rattle.laws_inputs.specs.RsvpMessages.declared.message.PathMsg.{PathMsg}
-use Rattle.laws_inputs.specs.RsvpMessages.declared.message.PathTearMsg.{PathTearMsg}
-use Rattle.laws_inputs.specs.RouterRules.Facts.{SenderKey}
-use Rattle.laws_inputs.specs.RouterRules.Forgetting.{counted}
-use Rattle.laws_inputs.specs.RouterRules.Inputs.{Came, Input, Spelt}
-use Rattle.laws_inputs.specs.RouterRules.NodeConfig.{period}
+use Rattle.laws_bounds.specs.RsvpMessages.declared.message.Message.TheVariants as message
+use Rattle.laws_bounds.specs.RsvpMessages.declared.message.PathMsg.{PathMsg}
+use Rattle.laws_bounds.specs.RsvpMessages.declared.message.PathTearMsg.{PathTearMsg}
+use Rattle.laws_bounds.specs.RouterRules.Facts.{SenderKey}
+use Rattle.laws_bounds.specs.RouterRules.Forgetting.{counted}
+use Rattle.laws_bounds.specs.RouterRules.Inputs.{Came, Input, Spelt}
+use Rattle.laws_bounds.specs.RouterRules.NodeConfig.{period}
 use Rattle.router_state.specs.State.{State, facts_of}
 
 -- ---- tables

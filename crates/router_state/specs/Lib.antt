@@ -5,9 +5,9 @@ pub mod Forgotten
 pub mod Waited
 pub mod StateLaws
 pub mod Whole
-pub use Rattle.laws_inputs.specs.FactLaws
+pub use Rattle.laws_bounds.specs.FactLaws
 pub use Rattle.path_state.specs as PathState
 pub use Rattle.resv_state.specs as ResvState
-pub use Rattle.laws_inputs.specs.RouterRules
-pub use Rattle.laws_inputs.specs.RsvpMessages
+pub use Rattle.laws_bounds.specs.RouterRules
+pub use Rattle.laws_bounds.specs.RsvpMessages
 pub use Rattle.resv_state.specs.StyleRules

@@ -18,12 +18,12 @@ use Rattle.path_state.specs.declared.fact.PathFact.{PathFact}
 use Rattle.resv_state.specs.Resvs.{ResvFacts}
 use Rattle.resv_state.specs.declared.fact.ResvFact.{ResvFact}
 use Rattle.blockade_state.specs.Blockades.{WallMap}
-use Rattle.laws_inputs.specs.RouterRules.Facts.{Facts, SenderKey, sender_keys, PathState, ResvState, Want, WantKey, Wants, Blockade, resvs_of}
+use Rattle.laws_bounds.specs.RouterRules.Facts.{Facts, SenderKey, sender_keys, PathState, ResvState, Want, WantKey, Wants, Blockade, resvs_of}
 use Rattle.resv_state.specs.StyleRules.Targets.{WallKey}
-use Rattle.laws_inputs.specs.RouterRules.Forgetting.{counted}
-use Rattle.laws_inputs.specs.RouterRules.Known.{Lane, lane_keys}
-use Rattle.laws_inputs.specs.RouterRules.NodeConfig.{NodeConfig}
-use Rattle.laws_inputs.specs.RouterRules.Requests.{toward}
+use Rattle.laws_bounds.specs.RouterRules.Forgetting.{counted}
+use Rattle.laws_bounds.specs.RouterRules.Known.{Lane, lane_keys}
+use Rattle.laws_bounds.specs.RouterRules.NodeConfig.{NodeConfig}
+use Rattle.laws_bounds.specs.RouterRules.Requests.{toward}
 
 -- what went last toward the hop of each lane, where something did
 abbrev pub Said : Type 0

@@ -11,14 +11,14 @@ use Rattle.rsvp_base.specs.declared.session.Session.{Session}
 use Rattle.rsvp_base.specs.declared.style.StyleKind.{StyleKind}
 use Rattle.resv_state.specs.StyleRules.Lines.{LineKey}
 use Rattle.resv_state.specs.StyleRules.Parts.{has_name}
-use Rattle.laws_inputs.specs.RouterRules.Act.{act}
-use Rattle.laws_inputs.specs.RouterRules.Facts.{Facts}
-use Rattle.laws_inputs.specs.RouterRules.Forgetting.{is_lost, remembered}
-use Rattle.laws_inputs.specs.RouterRules.Inputs.{Input}
-use Rattle.laws_inputs.specs.RouterRules.NodeConfig.{NodeConfig, route_in}
-use Rattle.laws_inputs.specs.RouterRules.Rule.{facts_after, settled}
-use Rattle.laws_inputs.specs.RouterRules.Waiting.{act_wait}
-use Rattle.laws_inputs.specs.RouterRules.declared.route.Route.{Route}
+use Rattle.laws_bounds.specs.RouterRules.Act.{act}
+use Rattle.laws_bounds.specs.RouterRules.Facts.{Facts}
+use Rattle.laws_bounds.specs.RouterRules.Forgetting.{is_lost, remembered}
+use Rattle.laws_bounds.specs.RouterRules.Inputs.{Input}
+use Rattle.laws_bounds.specs.RouterRules.NodeConfig.{NodeConfig, route_in}
+use Rattle.laws_bounds.specs.RouterRules.Rule.{facts_after, settled}
+use Rattle.laws_bounds.specs.RouterRules.Waiting.{act_wait}
+use Rattle.laws_bounds.specs.RouterRules.declared.route.Route.{Route}
 use Rattle.router_state.specs.Forgotten.{forgotten_all, is_gone}
 use Rattle.router_state.specs.Routes.{route_keys, route_row}
 use Rattle.router_state.specs.State.{AreUnmarked, IsKept, IsSettled, State, facts_of, no_state, resv_at}

@@ -4,8 +4,8 @@ use Rattle.std.specs.Prelude.{slice_get, ◌==◌}
 use Rattle.rsvp_base.specs.Members.{In}
 use Rattle.rsvp_base.specs.Table.{get}
 use Rattle.rsvp_base.specs.TokenBucket.{TokenBucket}
-use Rattle.laws_inputs.specs.Frames.{AreSameButMarks}
-use Rattle.laws_inputs.proofs.Framing.{wants_then}
+use Rattle.laws_bounds.specs.Frames.{AreSameButMarks}
+use Rattle.laws_bounds.proofs.Framing.{wants_then}
 use Rattle.router_rules.specs.declared.answers.LocalErr.{LocalErr}
 use Rattle.router_rules.specs.Calls.{SendersOf, advertised_with, call_refusal, senders_with, unless, wants_with}
 use Rattle.router_rules.specs.Facts.{Facts, SenderKey, Want, WantKey}

@@ -5,7 +5,7 @@ use Rattle.rsvp_base.specs.Members.{In}
 use Rattle.rsvp_base.specs.Table.{get}
 use Rattle.rsvp_base.specs.TokenBucket.{TokenBucket}
 use Rattle.calm_rounds.specs.Machine.{run}
-use Rattle.laws_inputs.specs.Frames.{AreSameButMarks, on_advertised, on_senders, on_wants}
+use Rattle.laws_bounds.specs.Frames.{AreSameButMarks, on_advertised, on_senders, on_wants}
 use Rattle.router_rules.specs.Calls.{SendersOf}
 use Rattle.router_rules.specs.Facts.{Facts, SenderKey, Want, WantKey, Wants}
 use Rattle.router_rules.specs.Inputs.{Clear, Input, Moved}

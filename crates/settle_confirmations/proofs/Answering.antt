@@ -24,11 +24,11 @@ use Rattle.rsvp_messages.specs.Units.{ask_style, asked_units}
 use Rattle.style_rules.specs.FlowOrder.{IsAtMost}
 use Rattle.style_rules.specs.Merge.{PartTable}
 use Rattle.style_rules.specs.Parts.{IsOfStyle}
-use Rattle.laws_inputs.specs.SendLaws.{IsResvTear}
-use Rattle.laws_inputs.specs.WishLaws.{GoesOn}
-use Rattle.laws_inputs.proofs.Asks.{style_told, units_told}
-use Rattle.laws_inputs.proofs.Ruling.{rule_in_parts}
-use Rattle.laws_inputs.proofs.Tests.{ties}
+use Rattle.laws_bounds.specs.SendLaws.{IsResvTear}
+use Rattle.laws_bounds.specs.WishLaws.{GoesOn}
+use Rattle.laws_bounds.proofs.Asks.{style_told, units_told}
+use Rattle.laws_bounds.proofs.Ruling.{rule_in_parts}
+use Rattle.laws_bounds.proofs.Tests.{ties}
 use Rattle.laws_steps.specs.AcceptingLaws.{came_resv}
 use Rattle.router_rules.specs.Bounds.{IsWithinBounds}
 use Rattle.router_rules.specs.Facts.{Facts}

@@ -31,15 +31,15 @@ use Rattle.style_rules.specs.Toward.{IsRequestOf, Request, parts_of, toward as m
 use Rattle.style_rules.proofs.Merges.{merge_least}
 use Rattle.style_rules.proofs.StyleLaws.{within_unit}
 use Rattle.style_rules.proofs.Towards.{open_below, toward_of_open, toward_source, toward_there}
-use Rattle.laws_inputs.specs.FactLaws.{ComesBy, IsResvRequest, IsWantRequest}
-use Rattle.laws_inputs.specs.SendLaws.{ArePartsOf, IsResvTear}
-use Rattle.laws_inputs.proofs.Asks.{gone_by_units}
-use Rattle.laws_inputs.proofs.Framing.{act_paths, act_wants, act_walls}
-use Rattle.laws_inputs.proofs.Knowing.{known_and_via}
-use Rattle.laws_inputs.proofs.Lists.{one_name}
-use Rattle.laws_inputs.proofs.Requesting.{requests_and_toward}
-use Rattle.laws_inputs.proofs.Ruling.{rule_in_parts}
-use Rattle.laws_inputs.proofs.Sending.{not_told}
+use Rattle.laws_bounds.specs.FactLaws.{ComesBy, IsResvRequest, IsWantRequest}
+use Rattle.laws_bounds.specs.SendLaws.{ArePartsOf, IsResvTear}
+use Rattle.laws_bounds.proofs.Asks.{gone_by_units}
+use Rattle.laws_bounds.proofs.Framing.{act_paths, act_wants, act_walls}
+use Rattle.laws_bounds.proofs.Knowing.{known_and_via}
+use Rattle.laws_bounds.proofs.Lists.{one_name}
+use Rattle.laws_bounds.proofs.Requesting.{requests_and_toward}
+use Rattle.laws_bounds.proofs.Ruling.{rule_in_parts}
+use Rattle.laws_bounds.proofs.Sending.{not_told}
 use Rattle.laws_bounds.proofs.Putting.{style_same}
 use Rattle.laws_steps.specs.AcceptingLaws.{CanBeTaken, came_resv}
 use Rattle.laws_steps.proofs.Admitting.{what_is_accepted}

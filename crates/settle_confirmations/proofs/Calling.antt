@@ -32,19 +32,19 @@ use Rattle.style_rules.proofs.StyleLaws.{common_unit, within_unit}
 use Rattle.style_rules.proofs.Told.{at_most_tested, at_most_told}
 use Rattle.style_rules.proofs.Towards.{open_below, toward_source, toward_there}
 use Rattle.calm_rounds.specs.Machine.{Happens}
-use Rattle.laws_inputs.specs.FactLaws.{ComesBy, IsResvRequest, IsWantRequest}
-use Rattle.laws_inputs.specs.SendLaws.{ArePartsOf, IsAskedOf, IsConf, IsError, IsPath, IsPathTear, IsResv, IsResvTear}
-use Rattle.laws_inputs.specs.WishLaws.{IsMarked}
-use Rattle.laws_inputs.proofs.Asks.{gone_by_units, style_told, units_told}
-use Rattle.laws_inputs.proofs.Calling.{call_refusals, calls_leave}
-use Rattle.laws_inputs.proofs.Framing.{wants_then}
-use Rattle.laws_inputs.proofs.Knowing.{known_and_via}
-use Rattle.laws_inputs.proofs.Lists.{one_name}
-use Rattle.laws_inputs.proofs.Requesting.{requests_and_toward}
-use Rattle.laws_inputs.proofs.Ruling.{rule_in_parts}
-use Rattle.laws_inputs.proofs.Stepping.{send_told}
-use Rattle.laws_inputs.proofs.Tests.{not_new, parts_tested, ties}
-use Rattle.laws_inputs.proofs.Wishing.{marks_are_used}
+use Rattle.laws_bounds.specs.FactLaws.{ComesBy, IsResvRequest, IsWantRequest}
+use Rattle.laws_bounds.specs.SendLaws.{ArePartsOf, IsAskedOf, IsConf, IsError, IsPath, IsPathTear, IsResv, IsResvTear}
+use Rattle.laws_bounds.specs.WishLaws.{IsMarked}
+use Rattle.laws_bounds.proofs.Asks.{gone_by_units, style_told, units_told}
+use Rattle.laws_bounds.proofs.Calling.{call_refusals, calls_leave}
+use Rattle.laws_bounds.proofs.Framing.{wants_then}
+use Rattle.laws_bounds.proofs.Knowing.{known_and_via}
+use Rattle.laws_bounds.proofs.Lists.{one_name}
+use Rattle.laws_bounds.proofs.Requesting.{requests_and_toward}
+use Rattle.laws_bounds.proofs.Ruling.{rule_in_parts}
+use Rattle.laws_bounds.proofs.Stepping.{send_told}
+use Rattle.laws_bounds.proofs.Tests.{not_new, parts_tested, ties}
+use Rattle.laws_bounds.proofs.Wishing.{marks_are_used}
 use Rattle.laws_steps.proofs.Framing.{left_as_it_was}
 use Rattle.router_rules.specs.declared.answers.LocalErr.{LocalErr}
 use Rattle.router_rules.specs.Act.{act}

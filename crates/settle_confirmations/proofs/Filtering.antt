@@ -20,10 +20,10 @@ use Rattle.style_rules.specs.Lines.{LineKey}
 use Rattle.style_rules.specs.Merge.{PartTable}
 use Rattle.style_rules.proofs.StyleLaws.{in_named}
 use Rattle.calm_rounds.specs.Machine.{Happens}
-use Rattle.laws_inputs.specs.FactLaws.{ComesBy}
-use Rattle.laws_inputs.specs.SendLaws.{ArePartsOf}
-use Rattle.laws_inputs.proofs.Asks.{style_told}
-use Rattle.laws_inputs.proofs.Ruling.{rule_in_parts}
+use Rattle.laws_bounds.specs.FactLaws.{ComesBy}
+use Rattle.laws_bounds.specs.SendLaws.{ArePartsOf}
+use Rattle.laws_bounds.proofs.Asks.{style_told}
+use Rattle.laws_bounds.proofs.Ruling.{rule_in_parts}
 use Rattle.router_rules.specs.Asking.{ask_of}
 use Rattle.router_rules.specs.Calls.{wanted}
 use Rattle.router_rules.specs.Facts.{Facts, Want, WantKey, resvs_of}

@@ -28,7 +28,7 @@ use Rattle.style_rules.specs.Parts.{part_cut}
 use Rattle.style_rules.proofs.Lattice.{at_most_along}
 use Rattle.style_rules.proofs.Merges.{merge_above}
 use Rattle.calm_rounds.specs.Machine.{Happens, run}
-use Rattle.laws_inputs.proofs.Lists.{to_values}
+use Rattle.laws_bounds.proofs.Lists.{to_values}
 use Rattle.router_rules.specs.Facts.{Facts, resvs_of}
 use Rattle.router_rules.specs.Inputs.{Arrival, Spelt}
 use Rattle.router_rules.specs.Rule.{Outcome}

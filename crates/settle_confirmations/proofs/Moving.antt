@@ -21,9 +21,9 @@ use Rattle.rsvp_messages.specs.Units.{ask_style}
 use Rattle.style_rules.specs.CutLaws.{name_some}
 use Rattle.style_rules.specs.Lines.{LineKey, NextHop, next_hops}
 use Rattle.style_rules.specs.PartLaws.{part_at_most_told}
-use Rattle.laws_inputs.proofs.Knowing.{known_and_via}
-use Rattle.laws_inputs.proofs.Lists.{one_name}
-use Rattle.laws_inputs.proofs.Tests.{ties}
+use Rattle.laws_bounds.proofs.Knowing.{known_and_via}
+use Rattle.laws_bounds.proofs.Lists.{one_name}
+use Rattle.laws_bounds.proofs.Tests.{ties}
 use Rattle.laws_steps.specs.AcceptingLaws.{CanBeTaken, came_resv}
 use Rattle.laws_steps.specs.ReservationLaws.{Touches}
 use Rattle.laws_steps.proofs.Admitting.{what_is_accepted}

@@ -36,12 +36,12 @@ use Rattle.style_rules.specs.Toward.{Request}
 use Rattle.style_rules.proofs.Lattice.{at_most_along}
 use Rattle.style_rules.proofs.StyleLaws.{cut_of_style, unit_of_names}
 use Rattle.style_rules.proofs.Towards.{open_below}
-use Rattle.laws_inputs.specs.SendLaws.{ArePartsOf, IsResvTear}
-use Rattle.laws_inputs.specs.WishLaws.{GoesOn}
-use Rattle.laws_inputs.proofs.Knowing.{known_and_via}
-use Rattle.laws_inputs.proofs.Lists.{one_name}
-use Rattle.laws_inputs.proofs.Requesting.{requests_and_toward}
-use Rattle.laws_inputs.proofs.Tests.{ties}
+use Rattle.laws_bounds.specs.SendLaws.{ArePartsOf, IsResvTear}
+use Rattle.laws_bounds.specs.WishLaws.{GoesOn}
+use Rattle.laws_bounds.proofs.Knowing.{known_and_via}
+use Rattle.laws_bounds.proofs.Lists.{one_name}
+use Rattle.laws_bounds.proofs.Requesting.{requests_and_toward}
+use Rattle.laws_bounds.proofs.Tests.{ties}
 use Rattle.laws_steps.specs.AcceptingLaws.{came_resv}
 use Rattle.router_rules.specs.Asking.{ask_of}
 use Rattle.router_rules.specs.Facts.{Facts, ResvState, resvs_of}

@@ -15,10 +15,10 @@ use Rattle.rsvp_base.proofs.Tables.{either}
 use Rattle.rsvp_messages.specs.declared.message.Message.TheVariants as message
 use Rattle.rsvp_messages.specs.declared.message.ResvConfMsg.{ResvConfMsg}
 use Rattle.rsvp_messages.specs.Units.{ask_style}
-use Rattle.laws_inputs.specs.MessageLaws.{IsConfOn}
-use Rattle.laws_inputs.proofs.Quiet.{steps_without_change}
-use Rattle.laws_inputs.proofs.Receiving.{confirmations_by_wish}
-use Rattle.laws_inputs.proofs.Tests.{addr_tested, addr_told}
+use Rattle.laws_bounds.specs.MessageLaws.{IsConfOn}
+use Rattle.laws_bounds.proofs.Quiet.{steps_without_change}
+use Rattle.laws_bounds.proofs.Receiving.{confirmations_by_wish}
+use Rattle.laws_bounds.proofs.Tests.{addr_tested, addr_told}
 use Rattle.laws_steps.proofs.Speaking.{send_made}
 use Rattle.router_rules.specs.declared.answers.Heard.{Heard}
 use Rattle.router_rules.specs.declared.answers.Heard.TheVariants as heard

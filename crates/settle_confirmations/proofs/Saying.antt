@@ -26,8 +26,8 @@ use Rattle.style_rules.specs.Merge.{PartTable}
 use Rattle.style_rules.specs.PartLaws.{part_at_most_told, same_part}
 use Rattle.style_rules.specs.Parts.{IsOfStyle}
 use Rattle.style_rules.proofs.StyleLaws.{unit_name, unit_of_names}
-use Rattle.laws_inputs.specs.SendLaws.{ArePartsOf, IsAskedOf}
-use Rattle.laws_inputs.proofs.Asks.{style_told, units_told}
+use Rattle.laws_bounds.specs.SendLaws.{ArePartsOf, IsAskedOf}
+use Rattle.laws_bounds.proofs.Asks.{style_told, units_told}
 use Rattle.router_rules.specs.Asking.{ask_of}
 use Rattle.router_rules.specs.Inputs.{Spelt}
 use Rattle.router_rules.specs.NodeConfig.{own}

@@ -31,18 +31,18 @@ use Rattle.style_rules.specs.CutLaws.{made_of, part_of_some, some_within}
 use Rattle.style_rules.specs.Lines.{Line, LineKey}
 use Rattle.style_rules.specs.Merge.{PartTable}
 use Rattle.style_rules.specs.Parts.{has_name, part_of}
-use Rattle.laws_inputs.specs.AskLaws.{IsTaken, IsUnitAt, book_refusal}
-use Rattle.laws_inputs.specs.SendLaws.{ArePartsOf, IsConf, IsError, IsPath, IsPathTear, IsResv, IsResvTear}
-use Rattle.laws_inputs.specs.WishLaws.{GoesOn}
-use Rattle.laws_inputs.proofs.Asks.{nothing_asked, style_told, units_told}
-use Rattle.laws_inputs.proofs.Framing.{act_advertised, act_paths, act_senders}
-use Rattle.laws_inputs.proofs.Leaving.{forgetting_by_names}
-use Rattle.laws_inputs.proofs.Lists.{one_name}
-use Rattle.laws_inputs.proofs.Stepping.{send_told}
-use Rattle.laws_inputs.proofs.Taking.{units_one_by_one}
-use Rattle.laws_inputs.proofs.Tests.{addr_tested, not_new, parts_tested}
-use Rattle.laws_inputs.proofs.Wholes.{resvs_in_steps, units_in_full}
-use Rattle.laws_inputs.proofs.Wishing.{wishes_are_granted}
+use Rattle.laws_bounds.specs.AskLaws.{IsTaken, IsUnitAt, book_refusal}
+use Rattle.laws_bounds.specs.SendLaws.{ArePartsOf, IsConf, IsError, IsPath, IsPathTear, IsResv, IsResvTear}
+use Rattle.laws_bounds.specs.WishLaws.{GoesOn}
+use Rattle.laws_bounds.proofs.Asks.{nothing_asked, style_told, units_told}
+use Rattle.laws_bounds.proofs.Framing.{act_advertised, act_paths, act_senders}
+use Rattle.laws_bounds.proofs.Leaving.{forgetting_by_names}
+use Rattle.laws_bounds.proofs.Lists.{one_name}
+use Rattle.laws_bounds.proofs.Stepping.{send_told}
+use Rattle.laws_bounds.proofs.Taking.{units_one_by_one}
+use Rattle.laws_bounds.proofs.Tests.{addr_tested, not_new, parts_tested}
+use Rattle.laws_bounds.proofs.Wholes.{resvs_in_steps, units_in_full}
+use Rattle.laws_bounds.proofs.Wishing.{wishes_are_granted}
 use Rattle.laws_bounds.proofs.Folding.{names_listed, unit_shape}
 use Rattle.laws_bounds.proofs.Putting.{style_same}
 use Rattle.laws_steps.specs.AcceptingLaws.{CanBeTaken, came_resv}

@@ -19,11 +19,11 @@ use Rattle.rsvp_base.proofs.SetLaws.{and_both, and_made, has-cut}
 use Rattle.rsvp_base.proofs.Tables.{either, tied_same, tied_self}
 use Rattle.style_rules.specs.FlowOrder.{flow_le}
 use Rattle.style_rules.specs.Lines.{BookTable, Line, LineKey}
-use Rattle.laws_inputs.specs.FlagLaws.{IsMatch}
-use Rattle.laws_inputs.proofs.Flagging.{flags_by_paths_and_resvs}
-use Rattle.laws_inputs.proofs.Lists.{has_some, one_name}
-use Rattle.laws_inputs.proofs.Sending.{not_told}
-use Rattle.laws_inputs.proofs.Tests.{style_told, ties}
+use Rattle.laws_bounds.specs.FlagLaws.{IsMatch}
+use Rattle.laws_bounds.proofs.Flagging.{flags_by_paths_and_resvs}
+use Rattle.laws_bounds.proofs.Lists.{has_some, one_name}
+use Rattle.laws_bounds.proofs.Sending.{not_told}
+use Rattle.laws_bounds.proofs.Tests.{style_told, ties}
 use Rattle.router_rules.specs.declared.entry.Entry.{Entry}
 use Rattle.router_rules.specs.Books.{book}
 use Rattle.router_rules.specs.Facts.{Facts, PathState, SenderKey, resvs_of}

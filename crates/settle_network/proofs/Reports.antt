@@ -19,7 +19,7 @@ use Rattle.style_rules.specs.PartLaws.{part_at_most_both_ways}
 use Rattle.style_rules.specs.Parts.{has_name, IsPartAtMost}
 use Rattle.style_rules.proofs.Books.{book_below, under_at_end}
 use Rattle.style_rules.proofs.Merges.{merge_above, merge_least, merge_source}
-use Rattle.laws_inputs.proofs.Requesting.{books_and_lines}
+use Rattle.laws_bounds.proofs.Requesting.{books_and_lines}
 use Rattle.router_rules.specs.Books.{book, line_of, lines}
 use Rattle.router_rules.specs.Facts.{Facts, resvs_of}
 use Rattle.tree_model.specs.declared.hops.LinkHop.{LinkHop}

@@ -19,10 +19,10 @@ use Rattle.rsvp_base.proofs.Tables.{got_put_in, get-put_in_same}
 use Rattle.rsvp_messages.specs.declared.message.Message.TheVariants as message
 use Rattle.rsvp_messages.specs.declared.message.PathMsg.{PathMsg}
 use Rattle.rsvp_messages.specs.declared.message.PathTearMsg.{PathTearMsg}
-use Rattle.laws_inputs.specs.FactLaws.{is_way}
-use Rattle.laws_inputs.proofs.Knowing.{has-known}
-use Rattle.laws_inputs.proofs.Offering.{offers_by_way}
-use Rattle.laws_inputs.proofs.Stepping.{offer_source, offered_is_known}
+use Rattle.laws_bounds.specs.FactLaws.{is_way}
+use Rattle.laws_bounds.proofs.Knowing.{has-known}
+use Rattle.laws_bounds.proofs.Offering.{offers_by_way}
+use Rattle.laws_bounds.proofs.Stepping.{offer_source, offered_is_known}
 use Rattle.router_rules.specs.Facts.{Facts, SenderKey, PathState, sender_keys}
 use Rattle.router_rules.specs.Inputs.{Input, Came, Spelt, Send, Wait, Clear}
 use Rattle.router_rules.specs.Known.{known}

@@ -15,9 +15,9 @@ use Rattle.rsvp_base.proofs.Tables.{either, get-without, got_without, tied_same,
 use Rattle.rsvp_messages.specs.declared.message.Message.TheVariants as message
 use Rattle.rsvp_messages.specs.declared.message.PathMsg.{PathMsg}
 use Rattle.rsvp_messages.specs.declared.message.PathTearMsg.{PathTearMsg}
-use Rattle.laws_inputs.specs.FactLaws.{is_way}
-use Rattle.laws_inputs.proofs.Calling.{call_refusals}
-use Rattle.laws_inputs.proofs.Knowing.{has-known}
+use Rattle.laws_bounds.specs.FactLaws.{is_way}
+use Rattle.laws_bounds.proofs.Calling.{call_refusals}
+use Rattle.laws_bounds.proofs.Knowing.{has-known}
 use Rattle.router_rules.specs.declared.answers.LocalErr.{LocalErr}
 use Rattle.router_rules.specs.Calls.{call_refusal, unless}
 use Rattle.router_rules.specs.Facts.{Facts, SenderKey, PathState, sender_keys}

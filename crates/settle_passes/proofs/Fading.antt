@@ -18,11 +18,11 @@ use Rattle.rsvp_base.proofs.Tables.{either, get-without, tied_same, tied_self}
 use Rattle.rsvp_messages.specs.declared.message.Message.TheVariants as message
 use Rattle.rsvp_messages.specs.declared.message.PathMsg.{PathMsg}
 use Rattle.rsvp_messages.specs.declared.message.PathTearMsg.{PathTearMsg}
-use Rattle.laws_inputs.specs.FactLaws.{is_way}
-use Rattle.laws_inputs.proofs.Knowing.{has-known}
-use Rattle.laws_inputs.proofs.Offering.{offers_by_way}
-use Rattle.laws_inputs.proofs.Stepping.{IsOffered, offer_source, offered, offered_is_known}
-use Rattle.laws_inputs.proofs.Tests.{addr_tested, came_tested, not_new}
+use Rattle.laws_bounds.specs.FactLaws.{is_way}
+use Rattle.laws_bounds.proofs.Knowing.{has-known}
+use Rattle.laws_bounds.proofs.Offering.{offers_by_way}
+use Rattle.laws_bounds.proofs.Stepping.{IsOffered, offer_source, offered, offered_is_known}
+use Rattle.laws_bounds.proofs.Tests.{addr_tested, came_tested, not_new}
 use Rattle.router_rules.specs.Act.{act_spelt}
 use Rattle.router_rules.specs.Facts.{Facts, SenderKey, PathState, Paths, sender_keys}
 use Rattle.router_rules.specs.Inputs.{Came, Input, Send, Spelt, Wait}

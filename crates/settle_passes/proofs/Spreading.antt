@@ -8,7 +8,7 @@ use Rattle.rsvp_base.specs.Table.{Table, get, has}
 use Rattle.rsvp_base.specs.TokenBucket.{TokenBucket}
 use Rattle.rsvp_base.proofs.Fronts.{in_front}
 use Rattle.calm_rounds.specs.Machine.{run}
-use Rattle.laws_inputs.proofs.Knowing.{has-known}
+use Rattle.laws_bounds.proofs.Knowing.{has-known}
 use Rattle.router_rules.specs.Facts.{SenderKey, PathState, sender_keys}
 use Rattle.tree_model.specs.declared.hops.LinkHop.{LinkHop}
 use Rattle.tree_model.specs.Networks.{Net, node_of, owner}

@@ -12,9 +12,9 @@ use Rattle.rsvp_base.proofs.Members.{in_append, in_each, in_right}
 use Rattle.rsvp_base.proofs.SetLaws.{and_made}
 use Rattle.rsvp_messages.specs.declared.message.Message.TheVariants as message
 use Rattle.rsvp_messages.specs.declared.message.PathTearMsg.{PathTearMsg}
-use Rattle.laws_inputs.specs.FactLaws.{is_way}
-use Rattle.laws_inputs.proofs.Knowing.{has-known}
-use Rattle.laws_inputs.proofs.Tests.{came_told}
+use Rattle.laws_bounds.specs.FactLaws.{is_way}
+use Rattle.laws_bounds.proofs.Knowing.{has-known}
+use Rattle.laws_bounds.proofs.Tests.{came_told}
 use Rattle.router_rules.specs.Facts.{Facts, SenderKey, PathState}
 use Rattle.router_rules.specs.Inputs.{Came, Clear, Input, Spelt, Wait}
 use Rattle.router_rules.specs.Known.{known}

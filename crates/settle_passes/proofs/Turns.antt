@@ -25,13 +25,13 @@ use Rattle.style_rules.specs.Lines.{LineKey, NextHop}
 use Rattle.style_rules.specs.Merge.{PartTable}
 use Rattle.style_rules.specs.PartLaws.{part_at_most_told}
 use Rattle.style_rules.proofs.StyleLaws.{common_unit}
-use Rattle.laws_inputs.specs.FactLaws.{ComesBy}
-use Rattle.laws_inputs.specs.SendLaws.{IsAskedOf, IsGone}
-use Rattle.laws_inputs.proofs.Asks.{nothing_asked, style_told, units_told}
-use Rattle.laws_inputs.proofs.Knowing.{known_and_via}
-use Rattle.laws_inputs.proofs.Requesting.{nowhere}
-use Rattle.laws_inputs.proofs.Ruling.{rule_in_parts}
-use Rattle.laws_inputs.proofs.Tests.{parts_told}
+use Rattle.laws_bounds.specs.FactLaws.{ComesBy}
+use Rattle.laws_bounds.specs.SendLaws.{IsAskedOf, IsGone}
+use Rattle.laws_bounds.proofs.Asks.{nothing_asked, style_told, units_told}
+use Rattle.laws_bounds.proofs.Knowing.{known_and_via}
+use Rattle.laws_bounds.proofs.Requesting.{nowhere}
+use Rattle.laws_bounds.proofs.Ruling.{rule_in_parts}
+use Rattle.laws_bounds.proofs.Tests.{parts_told}
 use Rattle.laws_steps.specs.ReservationLaws.{IsOfGoneUnits, IsOfLane, TakesName, Touches}
 use Rattle.laws_steps.proofs.Asking.{what_keeps_a_reservation_fact}
 use Rattle.laws_steps.proofs.Hopward.{what_a_resv_sent_says, why_a_resv_tear_is_sent}

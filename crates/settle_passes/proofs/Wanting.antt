@@ -26,10 +26,10 @@ use Rattle.style_rules.specs.Lines.{LineKey}
 use Rattle.style_rules.specs.Merge.{PartTable}
 use Rattle.style_rules.specs.PartLaws.{part_at_most_itself}
 use Rattle.style_rules.specs.Parts.{IsPartAtMost}
-use Rattle.laws_inputs.specs.FactLaws.{is_way}
-use Rattle.laws_inputs.proofs.Calling.{call_refusals, calls_leave}
-use Rattle.laws_inputs.proofs.Framing.{wants_then}
-use Rattle.laws_inputs.proofs.Knowing.{has-known}
+use Rattle.laws_bounds.specs.FactLaws.{is_way}
+use Rattle.laws_bounds.proofs.Calling.{call_refusals, calls_leave}
+use Rattle.laws_bounds.proofs.Framing.{wants_then}
+use Rattle.laws_bounds.proofs.Knowing.{has-known}
 use Rattle.laws_steps.specs.BlameLaws.{IsPassedOn, IsRefusal}
 use Rattle.laws_steps.specs.ReservationLaws.{Touches}
 use Rattle.laws_steps.proofs.Blaming.{where_an_error_with_a_flow_comes_from}

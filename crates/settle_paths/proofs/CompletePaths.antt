@@ -22,7 +22,7 @@ use Rattle.router_rules.specs.Facts.{Facts, SenderKey, PathState, sender_keys}
 use Rattle.router_rules.specs.Inputs.{Input, Came, Spelt}
 use Rattle.router_rules.specs.Known.{known}
 use Rattle.router_rules.specs.NodeConfig.{NodeConfig, own, comes_in}
-use Rattle.laws_inputs.proofs.Knowing.{has-known}
+use Rattle.laws_bounds.proofs.Knowing.{has-known}
 use Rattle.tree_model.specs.declared.hops.LinkHop.{LinkHop}
 use Rattle.tree_model.specs.Networks.{Net, node_of, iface_of, owner, peers}
 use Rattle.tree_model.specs.Ranks.{longest}

@@ -13,4 +13,4 @@ pub use Rattle.laws_network.proofs.Keeping
 pub use Rattle.laws_network.proofs.Known
 pub use Rattle.laws_network.proofs.Sends
 pub use Rattle.laws_network.proofs.Standing
-pub use Rattle.laws_inputs.proofs.Requesting
+pub use Rattle.laws_bounds.proofs.Requesting

@@ -15,7 +15,7 @@ use Rattle.tree_model.specs.Goals.{addr_of}
 use Rattle.laws_network.specs.Sources.{IsLocalOffer, IsPathOffer}
 use Rattle.laws_network.specs.SpeakingLaws.{IsOfOffer, IsOfGoneOffer}
 use Rattle.laws_network.proofs.Speaking.{what_a_path_sent_says, why_a_path_tear_is_sent}
-use Rattle.laws_inputs.specs.FactLaws.{is_way}
+use Rattle.laws_bounds.specs.FactLaws.{is_way}
 use Rattle.router_rules.specs.Facts.{Facts, PathState}
 use Rattle.router_rules.specs.Inputs.{Spelt}
 use Rattle.router_rules.specs.Known.{known}

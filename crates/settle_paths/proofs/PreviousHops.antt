@@ -20,9 +20,9 @@ use Rattle.tree_model.specs.Wants.{live, of_session, goes_over, names}
 use Rattle.tree_model.proofs.WantLaws.{name_made, name_told}
 use Rattle.router_rules.specs.Facts.{Facts, PathState, sender_keys}
 use Rattle.router_rules.specs.Known.{Lane, known, names_via}
-use Rattle.laws_inputs.specs.FactLaws.{ComesBy}
-use Rattle.laws_inputs.proofs.Knowing.{known_and_via, has-known}
-use Rattle.laws_inputs.proofs.Tests.{came_told, came_tested}
+use Rattle.laws_bounds.specs.FactLaws.{ComesBy}
+use Rattle.laws_bounds.proofs.Knowing.{known_and_via, has-known}
+use Rattle.laws_bounds.proofs.Tests.{came_told, came_tested}
 use Rattle.tree_model.specs.declared.hops.LinkHop.{LinkHop}
 use Rattle.tree_model.specs.Networks.{Net, node_of, iface_of, owner}
 use Rattle.tree_model.specs.Trees.{tree, hops_of, inward}

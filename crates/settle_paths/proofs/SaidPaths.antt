@@ -30,8 +30,8 @@ use Rattle.router_rules.specs.Offers.{OfferKey}
 use Rattle.router_rules.specs.NodeConfig.{NodeConfig, own, goes_out, lifetime}
 use Rattle.router_rules.specs.Rule.{Outcome}
 use Rattle.router_rules.specs.Sends.{path_send}
-use Rattle.laws_inputs.proofs.Knowing.{known_and_via}
-use Rattle.laws_inputs.proofs.Tests.{addr_tested}
+use Rattle.laws_bounds.proofs.Knowing.{known_and_via}
+use Rattle.laws_bounds.proofs.Tests.{addr_tested}
 use Rattle.tree_model.specs.declared.hops.LinkHop.{LinkHop}
 use Rattle.tree_model.specs.Networks.{Net, node_of, end_at, iface_of, peers}
 use Rattle.tree_model.specs.Trees.{tree, inward, outward}

@@ -24,7 +24,7 @@ use Rattle.router_rules.specs.Inputs.{Arrival, Spelt, Unspelt}
 use Rattle.network_model.specs.ThreeRouters.{s1, group, session, first, usual}
 use Rattle.router_rules.specs.NodeConfig.{is_addr}
 use Rattle.router_rules.specs.Sends.{same_flow}
-use Rattle.laws_inputs.proofs.Tests.{addr_told, flow_told}
+use Rattle.laws_bounds.proofs.Tests.{addr_told, flow_told}
 use Rattle.tree_model.specs.Networks.{Net, node_of, end_at}
 use Rattle.tree_model.specs.Trees.{depth}
 use Rattle.tree_model.proofs.Depths.{depth_and_rank_within_longest}

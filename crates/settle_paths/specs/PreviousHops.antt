@@ -11,7 +11,7 @@ use Rattle.tree_model.specs.Goals.{addr_of}
 use Rattle.tree_model.specs.Wants.{live, names}
 use Rattle.router_rules.specs.Facts.{Facts}
 use Rattle.router_rules.specs.Known.{Lane, known, names_via}
-use Rattle.laws_inputs.specs.FactLaws.{ComesBy}
+use Rattle.laws_bounds.specs.FactLaws.{ComesBy}
 use Rattle.tree_model.specs.declared.hops.LinkHop.{LinkHop}
 use Rattle.tree_model.specs.Networks.{Net, node_of, iface_of, owner}
 use Rattle.tree_model.specs.Trees.{tree, hops_of, inward}

@@ -28,11 +28,11 @@ use Rattle.router_rules.specs.Known.{known}
 use Rattle.router_rules.specs.NodeConfig.{NodeConfig, is_own}
 use Rattle.router_rules.specs.Steps.{facts_then, is_calm}
 use Rattle.style_rules.specs.Parts.{part_of}
-use Rattle.laws_inputs.specs.MessageLaws.{IsConfOn}
-use Rattle.laws_inputs.specs.RuleLaws.{IsLeft}
-use Rattle.laws_inputs.proofs.Leaving.{forgetting_by_names, left_told, waiting_leaves_the_living}
-use Rattle.laws_inputs.proofs.Receiving.{conf_told, resv_tears_by_names}
-use Rattle.laws_inputs.proofs.Wholes.{resvs_in_steps}
+use Rattle.laws_bounds.specs.MessageLaws.{IsConfOn}
+use Rattle.laws_bounds.specs.RuleLaws.{IsLeft}
+use Rattle.laws_bounds.proofs.Leaving.{forgetting_by_names, left_told, waiting_leaves_the_living}
+use Rattle.laws_bounds.proofs.Receiving.{conf_told, resv_tears_by_names}
+use Rattle.laws_bounds.proofs.Wholes.{resvs_in_steps}
 
 -- ---- a confirmation that goes on has come, and somebody wanted to hear it
 pub record ConfGoesOn (f : Facts) (s : ConfSend) (i : Input) : Type 0 where

@@ -13,7 +13,7 @@ use Rattle.rsvp_base.proofs.Counts.{in_set_of, size_below, sum_below}
 use Rattle.rsvp_base.proofs.Members.{in_filter}
 use Rattle.rsvp_base.proofs.SetLaws.{and_both, has-kept}
 use Rattle.rsvp_base.proofs.Sums.{sum-put_in, sum-without}
-use Rattle.laws_inputs.proofs.Lists.{none_in}
+use Rattle.laws_bounds.proofs.Lists.{none_in}
 use Rattle.laws_network.proofs.Known.{has_some}
 use Rattle.tree_model.specs.Valid.{AreRising}
 

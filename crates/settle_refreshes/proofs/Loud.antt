@@ -26,11 +26,11 @@ use Rattle.router_rules.specs.NodeConfig.{NodeConfig, is_session}
 use Rattle.router_rules.specs.Rule.{Outcome, rule, settled}
 use Rattle.router_rules.specs.Sends.{confirm_for, confirmed, is_changed}
 use Rattle.router_rules.specs.Steps.{facts_then, is_calm, sent_then}
-use Rattle.laws_inputs.specs.SendLaws.{IsSend}
-use Rattle.laws_inputs.proofs.Framing.{act_wants, wants_then}
-use Rattle.laws_inputs.proofs.Leaving.{forgetting_by_names, left_told}
-use Rattle.laws_inputs.proofs.Lists.{got_with_rows}
-use Rattle.laws_inputs.proofs.Stepping.{send_told}
+use Rattle.laws_bounds.specs.SendLaws.{IsSend}
+use Rattle.laws_bounds.proofs.Framing.{act_wants, wants_then}
+use Rattle.laws_bounds.proofs.Leaving.{forgetting_by_names, left_told}
+use Rattle.laws_bounds.proofs.Lists.{got_with_rows}
+use Rattle.laws_bounds.proofs.Stepping.{send_told}
 use Rattle.network_model.specs.Steps.{Adverts, At, ClearAt, Copy, Deliver, Flags, Inject, Lose, Piece, Report, Reroute, Step, Trace}
 use Rattle.network_model.specs.Steps.{input_at, is_quiet, ms_of, net_after, outcome, outcome_of, rest, sent, step, still}
 use Rattle.network_model.specs.Worlds.{Item, World, config_of}

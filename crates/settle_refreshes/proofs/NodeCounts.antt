@@ -30,8 +30,8 @@ use Rattle.router_rules.specs.NodeConfig.{NodeConfig, is_addr}
 use Rattle.router_rules.specs.Offers.{Offer, OfferKey, offer_keys, offers}
 use Rattle.router_rules.specs.Requests.{toward}
 use Rattle.router_rules.specs.Steps.{sent_then}
-use Rattle.laws_inputs.proofs.Stepping.{offered}
-use Rattle.laws_inputs.proofs.Tests.{addr_told, addr_tested}
+use Rattle.laws_bounds.proofs.Stepping.{offered}
+use Rattle.laws_bounds.proofs.Tests.{addr_told, addr_tested}
 use Rattle.tree_model.specs.declared.hops.End.{End}
 use Rattle.tree_model.specs.declared.hops.LinkHop.{LinkHop}
 use Rattle.tree_model.specs.declared.locals.LocalSender.{LocalSender}

@@ -22,11 +22,11 @@ use Rattle.router_rules.specs.Requests.{toward}
 use Rattle.router_rules.specs.Rule.{settled}
 use Rattle.router_rules.specs.Sends.{confirm_for, gone_names, is_changed, torn_names}
 use Rattle.router_rules.specs.Steps.{sent_then}
-use Rattle.laws_inputs.specs.SendLaws.{IsConf, IsError, IsPath, IsPathTear, IsResv, IsResvTear}
-use Rattle.laws_inputs.proofs.Asks.{gone_told}
-use Rattle.laws_inputs.proofs.Lists.{one_name}
-use Rattle.laws_inputs.proofs.Stepping.{send_told}
-use Rattle.laws_inputs.proofs.Tests.{parts_tested}
+use Rattle.laws_bounds.specs.SendLaws.{IsConf, IsError, IsPath, IsPathTear, IsResv, IsResvTear}
+use Rattle.laws_bounds.proofs.Asks.{gone_told}
+use Rattle.laws_bounds.proofs.Lists.{one_name}
+use Rattle.laws_bounds.proofs.Stepping.{send_told}
+use Rattle.laws_bounds.proofs.Tests.{parts_tested}
 
 -- a Path, or a Resv that asks for no confirmation
 abbrev pub IsRefreshing : Message → Type 0

@@ -28,8 +28,8 @@ use Rattle.router_rules.specs.Inputs.{Asked, Change, ConfSend, ErrSend, Input, O
 use Rattle.router_rules.specs.NodeConfig.{NodeConfig, own}
 use Rattle.router_rules.specs.Rule.{settled}
 use Rattle.router_rules.specs.Sends.{confirmed, error_send}
-use Rattle.laws_inputs.proofs.Lists.{one_name}
-use Rattle.laws_inputs.proofs.Stepping.{send_told}
+use Rattle.laws_bounds.proofs.Lists.{one_name}
+use Rattle.laws_bounds.proofs.Stepping.{send_told}
 use Rattle.tree_model.specs.declared.hops.LinkHop.{LinkHop}
 use Rattle.tree_model.specs.Networks.{Net, end_at, node_of}
 use Rattle.tree_model.specs.Ranks.{Follows, longest, rank}

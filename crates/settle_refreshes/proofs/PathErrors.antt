@@ -12,7 +12,7 @@ use Rattle.router_rules.specs.Inputs.{ErrSend, OfPath, Send, Spelt}
 use Rattle.router_rules.specs.NodeConfig.{NodeConfig}
 use Rattle.router_rules.specs.Rule.{settled}
 use Rattle.router_rules.specs.Sends.{error_send}
-use Rattle.laws_inputs.proofs.Stepping.{send_told}
+use Rattle.laws_bounds.proofs.Stepping.{send_told}
 use Rattle.tree_model.specs.declared.hops.LinkHop.{LinkHop}
 use Rattle.tree_model.specs.Networks.{Net, node_of}
 use Rattle.tree_model.specs.Ranks.{longest}

@@ -20,7 +20,7 @@ use Rattle.router_rules.specs.Facts.{Facts, ResvState, Want, WantKey, Wants, no_
 use Rattle.router_rules.specs.Inputs.{Stale, StalePath, StaleResv, StaleWall}
 use Rattle.router_rules.specs.NodeConfig.{NodeConfig}
 use Rattle.router_rules.specs.Rule.{facts_with}
-use Rattle.laws_inputs.proofs.Leaving.{forgetting_by_names, left_told}
+use Rattle.laws_bounds.proofs.Leaving.{forgetting_by_names, left_told}
 use Rattle.tree_model.specs.Goals.{DemandsFit}
 use Rattle.tree_model.specs.Ranks.{longest}
 use Rattle.tree_model.specs.Trees.{trees_of}

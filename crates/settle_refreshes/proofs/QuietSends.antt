@@ -27,10 +27,10 @@ use Rattle.router_rules.specs.Rule.{is_silent, settled}
 use Rattle.router_rules.specs.Sends.{conf_sends, confirmed, error_sends, gone_names, is_changed, is_new_offer, path_send, path_send_of, path_sends, path_tear, path_tears}
 use Rattle.router_rules.specs.Sends.{resv_send, resv_send_of, resv_send_to, resv_sends, resv_tear, resv_tear_send, resv_tears, torn_names}
 use Rattle.router_rules.specs.Steps.{sent_then}
-use Rattle.laws_inputs.proofs.Asks.{gone_told}
-use Rattle.laws_inputs.proofs.Lists.{none_in, one_name, passed}
-use Rattle.laws_inputs.proofs.Ruling.{rule_in_parts}
-use Rattle.laws_inputs.proofs.Tests.{parts_tested}
+use Rattle.laws_bounds.proofs.Asks.{gone_told}
+use Rattle.laws_bounds.proofs.Lists.{none_in, one_name, passed}
+use Rattle.laws_bounds.proofs.Ruling.{rule_in_parts}
+use Rattle.laws_bounds.proofs.Tests.{parts_tested}
 use Rattle.settle_refreshes.proofs.NodeSends.{IsRefreshing}
 
 module _ (p : NodeConfig) (c : ℕ) (i : Input) (f : Facts) where

@@ -34,10 +34,10 @@ use Rattle.router_rules.specs.Rule.{Outcome, is_silent, rule}
 use Rattle.router_rules.specs.Sends.{is_new_offer, told_at}
 use Rattle.router_rules.specs.Steps.{sent_then}
 use Rattle.router_rules.proofs.AdspecPath.Same.{same_is_equal}
-use Rattle.laws_inputs.proofs.Knowing.{known_and_via}
-use Rattle.laws_inputs.proofs.Lists.{none_in}
-use Rattle.laws_inputs.proofs.Stepping.{offer_of, offer_source, offered, quiet_due}
-use Rattle.laws_inputs.proofs.Tests.{addr_tested, flow_tested}
+use Rattle.laws_bounds.proofs.Knowing.{known_and_via}
+use Rattle.laws_bounds.proofs.Lists.{none_in}
+use Rattle.laws_bounds.proofs.Stepping.{offer_of, offer_source, offered, quiet_due}
+use Rattle.laws_bounds.proofs.Tests.{addr_tested, flow_tested}
 use Rattle.laws_steps.specs.AcceptingLaws.{IsTakenWhole, came_resv}
 use Rattle.laws_steps.proofs.Admitting.{what_is_accepted}
 use Rattle.laws_network.specs.Sources.{IsLocalOffer, IsPathOffer}

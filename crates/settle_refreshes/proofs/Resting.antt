@@ -24,12 +24,12 @@ use Rattle.router_rules.specs.Offers.{Offer, OfferKey, offer_at, offers}
 use Rattle.router_rules.specs.Requests.{toward}
 use Rattle.router_rules.specs.Rule.{Outcome, rule}
 use Rattle.router_rules.specs.Sends.{error_message}
-use Rattle.laws_inputs.specs.FactLaws.{is_way}
-use Rattle.laws_inputs.specs.SendLaws.{IsConf, IsError}
-use Rattle.laws_inputs.proofs.Knowing.{known_and_via}
-use Rattle.laws_inputs.proofs.Offering.{offers_by_way}
-use Rattle.laws_inputs.proofs.Ruling.{rule_in_parts}
-use Rattle.laws_inputs.proofs.Stepping.{offered, offered_is_known}
+use Rattle.laws_bounds.specs.FactLaws.{is_way}
+use Rattle.laws_bounds.specs.SendLaws.{IsConf, IsError}
+use Rattle.laws_bounds.proofs.Knowing.{known_and_via}
+use Rattle.laws_bounds.proofs.Offering.{offers_by_way}
+use Rattle.laws_bounds.proofs.Ruling.{rule_in_parts}
+use Rattle.laws_bounds.proofs.Stepping.{offered, offered_is_known}
 use Rattle.tree_model.specs.declared.hops.LinkHop.{LinkHop}
 use Rattle.tree_model.specs.Networks.{Net}
 use Rattle.tree_model.specs.Ranks.{longest, rank}

@@ -22,8 +22,8 @@ use Rattle.router_rules.specs.Inputs.{ErrSend, OfResv, Send, Spelt}
 use Rattle.router_rules.specs.NodeConfig.{NodeConfig, own}
 use Rattle.router_rules.specs.Rule.{settled}
 use Rattle.router_rules.specs.Sends.{error_send}
-use Rattle.laws_inputs.proofs.Lists.{one_name}
-use Rattle.laws_inputs.proofs.Stepping.{send_told}
+use Rattle.laws_bounds.proofs.Lists.{one_name}
+use Rattle.laws_bounds.proofs.Stepping.{send_told}
 use Rattle.laws_steps.specs.ReservationLaws.{IsListed}
 use Rattle.laws_steps.proofs.Blaming.{where_an_error_with_a_flow_comes_from}
 use Rattle.tree_model.specs.declared.hops.LinkHop.{LinkHop}

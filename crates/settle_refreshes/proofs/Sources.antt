@@ -29,15 +29,15 @@ use Rattle.router_rules.specs.Inputs.{Call, Came, Change, Clear, ErrMsg, ErrSend
 use Rattle.router_rules.specs.Known.{known}
 use Rattle.router_rules.specs.NodeConfig.{NodeConfig, goes_out, is_own, own}
 use Rattle.router_rules.specs.Sends.{error_message, error_send}
-use Rattle.laws_inputs.specs.AskLaws.{IsBookRefusal, IsLoss}
-use Rattle.laws_inputs.specs.ErrorLaws.{IsErrorTo, errors_with, walls_set}
-use Rattle.laws_inputs.specs.FactLaws.{ComesBy}
-use Rattle.laws_inputs.specs.SendLaws.{IsConf, IsError, IsPath, IsPathTear, IsResv, IsResvTear, IsSend}
-use Rattle.laws_inputs.proofs.Blame.{sent_listing}
-use Rattle.laws_inputs.proofs.Erring.{errors_once_each, resv_errs_by_tests}
-use Rattle.laws_inputs.proofs.Lists.{some_same}
-use Rattle.laws_inputs.proofs.Tests.{addr_told}
-use Rattle.laws_inputs.proofs.Wholes.{units_in_full}
+use Rattle.laws_bounds.specs.AskLaws.{IsBookRefusal, IsLoss}
+use Rattle.laws_bounds.specs.ErrorLaws.{IsErrorTo, errors_with, walls_set}
+use Rattle.laws_bounds.specs.FactLaws.{ComesBy}
+use Rattle.laws_bounds.specs.SendLaws.{IsConf, IsError, IsPath, IsPathTear, IsResv, IsResvTear, IsSend}
+use Rattle.laws_bounds.proofs.Blame.{sent_listing}
+use Rattle.laws_bounds.proofs.Erring.{errors_once_each, resv_errs_by_tests}
+use Rattle.laws_bounds.proofs.Lists.{some_same}
+use Rattle.laws_bounds.proofs.Tests.{addr_told}
+use Rattle.laws_bounds.proofs.Wholes.{units_in_full}
 
 -- ---- an error that an input makes
 module _ (p : NodeConfig) (c : ℕ) (f : Facts) (e : ErrSend) (i : Input) where

@@ -34,11 +34,11 @@ use Rattle.router_rules.specs.NodeConfig.{NodeConfig, own}
 use Rattle.router_rules.specs.Rule.{Outcome, settled}
 use Rattle.router_rules.specs.Sends.{confirm_for, is_changed, is_marked, marked_units, own_wish}
 use Rattle.router_rules.specs.Steps.{facts_then, is_calm}
-use Rattle.laws_inputs.specs.ErrorLaws.{IsPathReply, IsResvReply}
-use Rattle.laws_inputs.specs.Frames.{on_wants}
-use Rattle.laws_inputs.proofs.Answering.{faults_by_hint}
-use Rattle.laws_inputs.proofs.Framing.{act_wants, wants_then}
-use Rattle.laws_inputs.proofs.Stepping.{send_told}
+use Rattle.laws_bounds.specs.ErrorLaws.{IsPathReply, IsResvReply}
+use Rattle.laws_bounds.specs.Frames.{on_wants}
+use Rattle.laws_bounds.proofs.Answering.{faults_by_hint}
+use Rattle.laws_bounds.proofs.Framing.{act_wants, wants_then}
+use Rattle.laws_bounds.proofs.Stepping.{send_told}
 use Rattle.network_model.specs.Bounds.{AreBounds, IsProperArrival}
 use Rattle.network_model.specs.Steps.{Step, input_at, is_quiet, ms_of, outcome, sent, step, still}
 use Rattle.network_model.specs.Worlds.{Item, World, config_of}

@@ -20,7 +20,7 @@ use Rattle.rsvp_messages.specs.Proper.{IsProperAsk}
 use Rattle.rsvp_messages.specs.Units.{AskedUnit, ask_style, asked_units, fixed_unit}
 use Rattle.style_rules.specs.CutLaws.{name_some}
 use Rattle.style_rules.specs.PartLaws.{part_at_most_told}
-use Rattle.laws_inputs.proofs.Knowing.{known_and_via}
+use Rattle.laws_bounds.proofs.Knowing.{known_and_via}
 use Rattle.laws_steps.specs.AcceptingLaws.{CanBeTaken, IsPlaced, IsTakenWhole}
 use Rattle.laws_steps.proofs.Admitting.{what_is_accepted}
 use Rattle.router_rules.specs.Asking.{Asker, asker_of, matched}
@@ -53,8 +53,8 @@ use Rattle.settle_resvs.proofs.GoalByIface.{session_can_be_held}
 use Rattle.settle_resvs.proofs.UnderTheGoal.{has_place, sound_under, want_needs}
 use Rattle.settle_paths.proofs.PreviousHops.{previous_hops_are_all_hops}
 use Rattle.rsvp_base.specs.declared.style.StyleKind.{StyleKind}
-use Rattle.laws_inputs.specs.SendLaws.{IsAskedOf}
-use Rattle.laws_inputs.proofs.Asks.{units_told}
+use Rattle.laws_bounds.specs.SendLaws.{IsAskedOf}
+use Rattle.laws_bounds.proofs.Asks.{units_told}
 use Rattle.laws_steps.specs.ReservationLaws.{Touches}
 use Rattle.laws_steps.proofs.Asking.{what_keeps_a_reservation_fact}
 use Rattle.router_rules.specs.Requests.{toward}

@@ -25,10 +25,10 @@ use Rattle.style_rules.specs.Lines.{LineKey}
 use Rattle.style_rules.specs.Merge.{PartTable}
 use Rattle.style_rules.specs.PartLaws.{part_at_most_itself, part_at_most_along}
 use Rattle.style_rules.specs.Parts.{IsPartAtMost}
-use Rattle.laws_inputs.specs.FactLaws.{is_way}
-use Rattle.laws_inputs.proofs.Calling.{call_refusals, calls_leave}
-use Rattle.laws_inputs.proofs.Framing.{wants_then}
-use Rattle.laws_inputs.proofs.Knowing.{has-known}
+use Rattle.laws_bounds.specs.FactLaws.{is_way}
+use Rattle.laws_bounds.proofs.Calling.{call_refusals, calls_leave}
+use Rattle.laws_bounds.proofs.Framing.{wants_then}
+use Rattle.laws_bounds.proofs.Knowing.{has-known}
 use Rattle.laws_steps.specs.BlameLaws.{IsPassedOn, IsRefusal}
 use Rattle.laws_steps.proofs.Blaming.{where_an_error_with_a_flow_comes_from}
 use Rattle.laws_steps.proofs.Framing.{left_as_it_was}
@@ -78,7 +78,7 @@ use Rattle.settle_passes.proofs.Reserving.{all_append, last_before, ready}
 use Rattle.settle_passes.proofs.Turns.{Turns, addressed_in_turn, news}
 use Rattle.settle_resvs.proofs.Accepting.{fits_again}
 use Rattle.settle_network.specs.Settled.{HasSettled}
-use Rattle.laws_inputs.specs.Frames.{calls_on_advertised, calls_on_senders}
+use Rattle.laws_bounds.specs.Frames.{calls_on_advertised, calls_on_senders}
 use Rattle.settle_paths.proofs.PreviousHops.{via_is}
 use Rattle.settle_paths.specs.PreviousHops.{IsPrevious}
 use Rattle.settle_resvs.proofs.SoundResvs.{part_again}

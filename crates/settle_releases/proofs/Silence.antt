@@ -1,11 +1,11 @@
 -- After a release nothing is in flight in the end, where nobody waits to be confirmed: a node that takes a Resv without a wish, or a
 -- ResvTear, sends such alone.
-use Rattle.laws_inputs.proofs.Framing.{act_advertised, act_paths, act_senders, act_wants, wants_then}
-use Rattle.laws_inputs.proofs.Knowing.{known_and_via}
-use Rattle.laws_inputs.proofs.Lists.{none_in}
-use Rattle.laws_inputs.proofs.Stepping.{send_told}
-use Rattle.laws_inputs.proofs.Tests.{addr_tested, not_new}
-use Rattle.laws_inputs.specs.SendLaws.{IsConf, IsError, IsPath, IsPathTear, IsResv, IsResvTear}
+use Rattle.laws_bounds.proofs.Framing.{act_advertised, act_paths, act_senders, act_wants, wants_then}
+use Rattle.laws_bounds.proofs.Knowing.{known_and_via}
+use Rattle.laws_bounds.proofs.Lists.{none_in}
+use Rattle.laws_bounds.proofs.Stepping.{send_told}
+use Rattle.laws_bounds.proofs.Tests.{addr_tested, not_new}
+use Rattle.laws_bounds.specs.SendLaws.{IsConf, IsError, IsPath, IsPathTear, IsResv, IsResvTear}
 use Rattle.laws_network.proofs.Sends.{goes_to_end}
 use Rattle.laws_network.proofs.Standing.{own_end, peer_there, same_end, some_at}
 use Rattle.laws_steps.proofs.Hopward.{why_a_resv_tear_is_sent}
@@ -82,8 +82,8 @@ use Rattle.network_model.proofs.Quiet.{at_node_found}
 use Rattle.settle_releases.specs.Releases.{HasNoMark, after_quit, after_quits, AsksNoMore}
 use Rattle.router_rules.specs.declared.answers.LocalErr.{LocalErr}
 use Rattle.settle_network.specs.Settled.{HasSettled}
-use Rattle.laws_inputs.specs.Frames.{calls_on_advertised, calls_on_senders}
-use Rattle.laws_inputs.proofs.Calling.{calls_leave}
+use Rattle.laws_bounds.specs.Frames.{calls_on_advertised, calls_on_senders}
+use Rattle.laws_bounds.proofs.Calling.{calls_leave}
 use Rattle.rsvp_base.specs.declared.style.StyleKind.{StyleKind}
 use Rattle.rsvp_base.specs.declared.style.StyleKind.TheVariants.{Fixed, Shared, Wild}
 use Rattle.settle_passes.specs.Reserving.{after_want}

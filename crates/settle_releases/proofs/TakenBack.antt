@@ -41,10 +41,10 @@ use Rattle.settle_passes.specs.Reserving.{AllAsk, IsAskedLast, IsKeptOver}
 use Rattle.rsvp_base.proofs.SetLaws.{and_made, has-cut}
 use Rattle.rsvp_messages.specs.declared.message.ResvTearMsg.{ResvTearMsg}
 use Rattle.style_rules.proofs.StyleLaws.{unit_name}
-use Rattle.laws_inputs.specs.SendLaws.{IsAskedOf}
-use Rattle.laws_inputs.proofs.Asks.{units_told, gone_by_units}
-use Rattle.laws_inputs.proofs.Requesting.{nowhere}
-use Rattle.laws_inputs.proofs.Ruling.{rule_in_parts}
+use Rattle.laws_bounds.specs.SendLaws.{IsAskedOf}
+use Rattle.laws_bounds.proofs.Asks.{units_told, gone_by_units}
+use Rattle.laws_bounds.proofs.Requesting.{nowhere}
+use Rattle.laws_bounds.proofs.Ruling.{rule_in_parts}
 use Rattle.router_rules.specs.Act.{act}
 use Rattle.router_rules.specs.Sends.{tear_of, gone_names, resv_tear_send, torn_names, hop_to}
 use Rattle.tree_model.specs.declared.hops.End.{End}

@@ -18,10 +18,10 @@ use Rattle.rsvp_messages.specs.Units.{tear_names, tear_style}
 use Rattle.style_rules.specs.Lines.{LineKey, is_of_hop, line_keys, next_hops}
 use Rattle.style_rules.specs.Parts.{has_name}
 use Rattle.style_rules.proofs.StyleLaws.{unit_name}
-use Rattle.laws_inputs.proofs.Leaving.{forgetting_by_names, left_by_names}
-use Rattle.laws_inputs.proofs.Receiving.{resv_tears_by_names}
-use Rattle.laws_inputs.proofs.Ruling.{rule_in_parts}
-use Rattle.laws_inputs.proofs.Tests.{addr_tested}
+use Rattle.laws_bounds.proofs.Leaving.{forgetting_by_names, left_by_names}
+use Rattle.laws_bounds.proofs.Receiving.{resv_tears_by_names}
+use Rattle.laws_bounds.proofs.Ruling.{rule_in_parts}
+use Rattle.laws_bounds.proofs.Tests.{addr_tested}
 use Rattle.router_rules.specs.Act.{act, act_spelt}
 use Rattle.router_rules.specs.Asking.{act_resv_tear, names_one, stays}
 use Rattle.router_rules.specs.Facts.{Facts, ResvState, ResvTables, resvs_of, table_of}

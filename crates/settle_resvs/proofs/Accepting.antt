@@ -25,7 +25,7 @@ use Rattle.style_rules.specs.PartLaws.{part_at_most_told}
 use Rattle.calm_rounds.specs.Hold.{Hold}
 use Rattle.calm_rounds.specs.Rounds.{Rounds}
 use Rattle.calm_rounds.proofs.Holding.{hold_map, hold_both, hold_later, hold_start}
-use Rattle.laws_inputs.proofs.Knowing.{known_and_via}
+use Rattle.laws_bounds.proofs.Knowing.{known_and_via}
 use Rattle.laws_steps.specs.AcceptingLaws.{CanBeTaken, IsPlaced}
 use Rattle.laws_steps.proofs.Admitting.{what_is_accepted}
 use Rattle.router_rules.specs.Asking.{Asker, asker_of, matched}

@@ -23,9 +23,9 @@ use Rattle.calm_rounds.specs.Hold.{Hold}
 use Rattle.calm_rounds.specs.SoftStates.{Stands}
 use Rattle.calm_rounds.specs.Rounds.{Rounds}
 use Rattle.calm_rounds.proofs.Holding.{hold_map, hold_both, hold_all, hold_later, hold_start, hold_stack, hold_keep}
-use Rattle.laws_inputs.specs.SendLaws.{IsAskedOf}
-use Rattle.laws_inputs.proofs.Asks.{nothing_asked, units_told}
-use Rattle.laws_inputs.proofs.Knowing.{known_and_via}
+use Rattle.laws_bounds.specs.SendLaws.{IsAskedOf}
+use Rattle.laws_bounds.proofs.Asks.{nothing_asked, units_told}
+use Rattle.laws_bounds.proofs.Knowing.{known_and_via}
 use Rattle.laws_steps.specs.AcceptingLaws.{CanBeTaken}
 use Rattle.laws_steps.proofs.Admitting.{what_is_accepted}
 use Rattle.laws_steps.proofs.Hopward.{why_a_resv_tear_is_sent}

@@ -28,7 +28,7 @@ use Rattle.router_rules.specs.Known.{known, named_as}
 use Rattle.network_model.specs.ThreeRouters.{s1, r1, session, usual}
 use Rattle.router_rules.specs.NodeConfig.{is_addr, is_session, lifetime}
 use Rattle.router_rules.specs.Requests.{toward}
-use Rattle.laws_inputs.proofs.Tests.{addr_told, session_told}
+use Rattle.laws_bounds.proofs.Tests.{addr_told, session_told}
 use Rattle.tree_model.proofs.Following.{same_number}
 use Rattle.network_model.specs.Bounds.{AreBounds}
 use Rattle.network_model.specs.Laws.{config_in}

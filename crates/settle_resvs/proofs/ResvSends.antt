@@ -10,7 +10,7 @@ use Rattle.rsvp_messages.specs.Units.{ask_style}
 use Rattle.tree_model.specs.Goals.{addr_of}
 use Rattle.laws_steps.specs.ReservationLaws.{IsOfLane}
 use Rattle.laws_steps.proofs.Hopward.{what_a_resv_sent_says}
-use Rattle.laws_inputs.specs.FactLaws.{ComesBy}
+use Rattle.laws_bounds.specs.FactLaws.{ComesBy}
 use Rattle.router_rules.specs.Asking.{ask_of}
 use Rattle.router_rules.specs.Facts.{Facts}
 use Rattle.router_rules.specs.Inputs.{Spelt}

@@ -38,10 +38,10 @@ use Rattle.router_rules.specs.NodeConfig.{NodeConfig, own, is_addr, is_session, 
 use Rattle.router_rules.specs.Requests.{toward, is_style}
 use Rattle.router_rules.specs.Rule.{Outcome}
 use Rattle.router_rules.specs.Sends.{resv_send}
-use Rattle.laws_inputs.proofs.Asks.{style_told as ask_told}
-use Rattle.laws_inputs.proofs.Knowing.{has-known, lanes_told, counted_made}
-use Rattle.laws_inputs.proofs.Requesting.{nowhere}
-use Rattle.laws_inputs.proofs.Tests.{ties, addr_told, addr_tested, session_told, style_told}
+use Rattle.laws_bounds.proofs.Asks.{style_told as ask_told}
+use Rattle.laws_bounds.proofs.Knowing.{has-known, lanes_told, counted_made}
+use Rattle.laws_bounds.proofs.Requesting.{nowhere}
+use Rattle.laws_bounds.proofs.Tests.{ties, addr_told, addr_tested, session_told, style_told}
 use Rattle.router_rules.specs.Steps.{facts_then, node_step}
 use Rattle.laws_network.proofs.Speaking.{refreshes_are_marked}
 use Rattle.laws_steps.specs.ReservationLaws.{TakesName, Touches, TouchesBy}

@@ -31,10 +31,10 @@ use Rattle.style_rules.specs.Toward.{Request, is_walled, parts_of}
 use Rattle.style_rules.proofs.Merges.{merges_same}
 use Rattle.style_rules.proofs.StyleLaws.{cut_of_style, within_unit}
 use Rattle.style_rules.proofs.Towards.{toward_open}
-use Rattle.laws_inputs.specs.FactLaws.{IsResvRequest, IsWantRequest}
-use Rattle.laws_inputs.proofs.Knowing.{known_and_via}
-use Rattle.laws_inputs.proofs.Requesting.{requests_and_toward}
-use Rattle.laws_inputs.proofs.Tests.{came_tested}
+use Rattle.laws_bounds.specs.FactLaws.{IsResvRequest, IsWantRequest}
+use Rattle.laws_bounds.proofs.Knowing.{known_and_via}
+use Rattle.laws_bounds.proofs.Requesting.{requests_and_toward}
+use Rattle.laws_bounds.proofs.Tests.{came_tested}
 use Rattle.router_rules.specs.Facts.{Blockade, Facts, Walls, resvs_of}
 use Rattle.router_rules.specs.Known.{Lane, names_via, names_via_where}
 use Rattle.router_rules.specs.NodeConfig.{NodeConfig, goes_out}

@@ -24,10 +24,10 @@ use Rattle.router_rules.specs.Facts.{Facts}
 use Rattle.router_rules.specs.Known.{Lane, names_via, names_via_where}
 use Rattle.router_rules.specs.NodeConfig.{NodeConfig, goes_out}
 use Rattle.router_rules.specs.Requests.{requests, want_part, toward}
-use Rattle.laws_inputs.specs.FactLaws.{IsResvRequest, IsWantRequest}
-use Rattle.laws_inputs.specs.SendLaws.{ArePartsOf}
-use Rattle.laws_inputs.proofs.Knowing.{known_and_via}
-use Rattle.laws_inputs.proofs.Requesting.{requests_and_toward}
+use Rattle.laws_bounds.specs.FactLaws.{IsResvRequest, IsWantRequest}
+use Rattle.laws_bounds.specs.SendLaws.{ArePartsOf}
+use Rattle.laws_bounds.proofs.Knowing.{known_and_via}
+use Rattle.laws_bounds.proofs.Requesting.{requests_and_toward}
 
 not_false : (b : Bool) → not b ≡ true → b ≡ false
 not_false true e = cc

@@ -36,9 +36,9 @@ use Rattle.router_rules.specs.Facts.{Facts}
 use Rattle.router_rules.specs.Known.{Lane, names_via, names_via_where}
 use Rattle.router_rules.specs.NodeConfig.{goes_out}
 use Rattle.router_rules.specs.Requests.{requests, want_part, toward}
-use Rattle.laws_inputs.specs.FactLaws.{IsResvRequest, IsWantRequest}
-use Rattle.laws_inputs.proofs.Knowing.{known_and_via}
-use Rattle.laws_inputs.proofs.Requesting.{requests_and_toward}
+use Rattle.laws_bounds.specs.FactLaws.{IsResvRequest, IsWantRequest}
+use Rattle.laws_bounds.proofs.Knowing.{known_and_via}
+use Rattle.laws_bounds.proofs.Requesting.{requests_and_toward}
 use Rattle.tree_model.specs.declared.hops.LinkHop.{LinkHop}
 use Rattle.tree_model.specs.Networks.{node_of}
 use Rattle.tree_model.specs.Ranks.{Follows, followers, rank}

@@ -15,7 +15,7 @@ use Rattle.rsvp_messages.specs.Proper.{IsProperAsk}
 use Rattle.rsvp_messages.specs.Units.{AskedUnit, ask_style, asked_units}
 use Rattle.style_rules.specs.CutLaws.{name_some}
 use Rattle.style_rules.specs.PartLaws.{part_at_most_itself}
-use Rattle.laws_inputs.proofs.Knowing.{known_and_via}
+use Rattle.laws_bounds.proofs.Knowing.{known_and_via}
 use Rattle.laws_steps.specs.AcceptingLaws.{CanBeTaken, IsPlaced, IsTakenWhole}
 use Rattle.laws_steps.proofs.Admitting.{what_is_accepted}
 use Rattle.router_rules.specs.Asking.{Asker, asker_of, matched}

@@ -17,9 +17,9 @@ use Rattle.rsvp_base.proofs.SetLaws.{and_made}
 use Rattle.rsvp_messages.specs.RsvpObjects.ObjectFields.declared.adspec.Adspec.{Adspec}
 use Rattle.rsvp_messages.specs.declared.message.Message.TheVariants as message
 use Rattle.style_rules.specs.PartLaws.{part_at_most_itself}
-use Rattle.laws_inputs.specs.FactLaws.{is_way}
-use Rattle.laws_inputs.specs.Frames.{calls_on_senders}
-use Rattle.laws_inputs.proofs.Knowing.{has-known}
+use Rattle.laws_bounds.specs.FactLaws.{is_way}
+use Rattle.laws_bounds.specs.Frames.{calls_on_senders}
+use Rattle.laws_bounds.proofs.Knowing.{has-known}
 use Rattle.router_rules.specs.Calls.{call_refusal, unless}
 use Rattle.router_rules.specs.Facts.{Facts, PathState, SenderKey, sender_keys}
 use Rattle.router_rules.specs.Inputs.{AdvertAs, Call, Local, SendAs, Wait}

@@ -8,7 +8,7 @@ use Rattle.rsvp_base.specs.declared.style.StyleKind.{StyleKind}
 use Rattle.rsvp_base.specs.declared.style.Unit.{Unit as UnitOf}
 use Rattle.rsvp_base.specs.declared.addr.Addr.{Addr}
 use Rattle.rsvp_base.specs.Table.{has}
-use Rattle.laws_inputs.proofs.Framing.{wants_then}
+use Rattle.laws_bounds.proofs.Framing.{wants_then}
 use Rattle.router_rules.specs.Calls.{call_refusal}
 use Rattle.router_rules.specs.Facts.{Facts, SenderKey, Wants}
 use Rattle.router_rules.specs.Inputs.{AdvertAs, Call, Local}
@@ -26,7 +26,7 @@ use Rattle.settle_passes.proofs.Calls.{IsCalled, called}
 use Rattle.settle_releases.proofs.Releasing.{unless_same}
 use Rattle.settle_senders.specs.Following.{IsFollowing}
 use Rattle.laws_network.proofs.Locals.{same_wants}
-use Rattle.laws_inputs.specs.Frames.{AreSameButMarks}
+use Rattle.laws_bounds.specs.Frames.{AreSameButMarks}
 use Rattle.settle_resvs.proofs.SoundResvs.{part_again}
 use Rattle.tree_model.specs.Wants.{Locals}
 use Rattle.settle_senders.specs.Adverts.{AreAdvertising, HasItsAdverts, after_advert}

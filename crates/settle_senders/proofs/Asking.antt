@@ -14,9 +14,9 @@ use Rattle.rsvp_base.proofs.Members.{in_append, in_each}
 use Rattle.rsvp_messages.specs.declared.message.Message.TheVariants as message
 use Rattle.rsvp_messages.specs.declared.message.ResvMsg.{ResvMsg}
 use Rattle.rsvp_messages.specs.Units.{AskedUnit, ask_style, asked_units}
-use Rattle.laws_inputs.specs.SendLaws.{IsAskedOf}
-use Rattle.laws_inputs.proofs.Asks.{units_told}
-use Rattle.laws_inputs.proofs.Knowing.{known_and_via}
+use Rattle.laws_bounds.specs.SendLaws.{IsAskedOf}
+use Rattle.laws_bounds.proofs.Asks.{units_told}
+use Rattle.laws_bounds.proofs.Knowing.{known_and_via}
 use Rattle.router_rules.specs.Inputs.{Spelt}
 use Rattle.router_rules.specs.Known.{names_via}
 use Rattle.router_rules.specs.NodeConfig.{NodeConfig}

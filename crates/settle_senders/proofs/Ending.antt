@@ -26,12 +26,12 @@ use Rattle.style_rules.specs.Lines.{AreUnder, BookTable, NextHop, held}
 use Rattle.style_rules.specs.PartLaws.{part_at_most_itself, part_at_most_told, same_part}
 use Rattle.style_rules.specs.Parts.{IsPartAtMost}
 use Rattle.style_rules.proofs.Books.{held_at_end_below}
-use Rattle.laws_inputs.specs.FactLaws.{ComesBy}
-use Rattle.laws_inputs.specs.SendLaws.{IsAskedOf}
-use Rattle.laws_inputs.proofs.Asks.{units_told}
-use Rattle.laws_inputs.proofs.Framing.{wants_then}
-use Rattle.laws_inputs.proofs.Knowing.{has-known, known_and_via}
-use Rattle.laws_inputs.proofs.Tests.{came_told}
+use Rattle.laws_bounds.specs.FactLaws.{ComesBy}
+use Rattle.laws_bounds.specs.SendLaws.{IsAskedOf}
+use Rattle.laws_bounds.proofs.Asks.{units_told}
+use Rattle.laws_bounds.proofs.Framing.{wants_then}
+use Rattle.laws_bounds.proofs.Knowing.{has-known, known_and_via}
+use Rattle.laws_bounds.proofs.Tests.{came_told}
 use Rattle.laws_steps.specs.AcceptingLaws.{IsTakenWhole}
 use Rattle.laws_steps.specs.ReservationLaws.{IsAskedFor}
 use Rattle.laws_steps.proofs.Asking.{where_a_reservation_fact_comes_from}

@@ -19,10 +19,10 @@ use Rattle.rsvp_base.proofs.Members.{in_append, in_each}
 use Rattle.rsvp_base.proofs.SetLaws.{and_made, same_set}
 use Rattle.rsvp_base.proofs.Tables.{either, get-changed, get-put_in_other, get-put_in_same, then_do, tied_same}
 use Rattle.rsvp_messages.specs.declared.message.Message.TheVariants as message
-use Rattle.laws_inputs.specs.FactLaws.{is_way}
-use Rattle.laws_inputs.specs.Frames.{AreSameButMarks, calls_on_senders}
-use Rattle.laws_inputs.proofs.Framing.{wants_then}
-use Rattle.laws_inputs.proofs.Knowing.{has-known}
+use Rattle.laws_bounds.specs.FactLaws.{is_way}
+use Rattle.laws_bounds.specs.Frames.{AreSameButMarks, calls_on_senders}
+use Rattle.laws_bounds.proofs.Framing.{wants_then}
+use Rattle.laws_bounds.proofs.Knowing.{has-known}
 use Rattle.router_rules.specs.declared.answers.LocalErr.{LocalErr}
 use Rattle.router_rules.specs.Calls.{call_refusal, unless}
 use Rattle.router_rules.specs.Facts.{Facts, PathState, SenderKey, Wants, sender_keys}

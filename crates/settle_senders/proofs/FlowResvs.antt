@@ -25,12 +25,12 @@ use Rattle.style_rules.specs.Lines.{NextHop, next_hops}
 use Rattle.style_rules.specs.Merge.{PartTable}
 use Rattle.style_rules.specs.Parts.{part_cut}
 use Rattle.style_rules.specs.Toward.{toward as merged_toward}
-use Rattle.laws_inputs.specs.FactLaws.{ComesBy}
-use Rattle.laws_inputs.specs.SendLaws.{IsConf, IsError, IsPath, IsPathTear, IsResv, IsResvTear}
-use Rattle.laws_inputs.proofs.Framing.{act_resvs, act_walls, act_wants}
-use Rattle.laws_inputs.proofs.Knowing.{has-known, known_and_via}
-use Rattle.laws_inputs.proofs.Ruling.{toward_unmarked}
-use Rattle.laws_inputs.proofs.Stepping.{send_told}
+use Rattle.laws_bounds.specs.FactLaws.{ComesBy}
+use Rattle.laws_bounds.specs.SendLaws.{IsConf, IsError, IsPath, IsPathTear, IsResv, IsResvTear}
+use Rattle.laws_bounds.proofs.Framing.{act_resvs, act_walls, act_wants}
+use Rattle.laws_bounds.proofs.Knowing.{has-known, known_and_via}
+use Rattle.laws_bounds.proofs.Ruling.{toward_unmarked}
+use Rattle.laws_bounds.proofs.Stepping.{send_told}
 use Rattle.laws_steps.proofs.Framing.{forget_nobody}
 use Rattle.laws_steps.proofs.Hopward.{what_a_resv_sent_says, why_a_resv_tear_is_sent}
 use Rattle.router_rules.specs.Act.{act, act_spelt, is_mine}

@@ -4,8 +4,8 @@ use Rattle.std.proofs.Common.{◌≡◌, ℕ, ◌+◌, ◌<◌, List, [], ◌∷
 use Rattle.std.specs.Prelude.{slice_get, not, ◌&&◌}
 use Rattle.settle_senders.proofs.Ending.{IsLettingGo, letting_go_next}
 use Rattle.settle_senders.proofs.TakenFor.{known_of_live, same_addr, taken_for_live, IsTakenFor}
-use Rattle.laws_inputs.specs.RuleLaws.{IsLeft}
-use Rattle.laws_inputs.proofs.Leaving.{forgetting_by_names, left_by_names}
+use Rattle.laws_bounds.specs.RuleLaws.{IsLeft}
+use Rattle.laws_bounds.proofs.Leaving.{forgetting_by_names, left_by_names}
 use Rattle.router_rules.specs.Act.{act, act_spelt, is_mine}
 use Rattle.router_rules.specs.Forgetting.{is_lost}
 use Rattle.settle_passes.proofs.Deliveries.{live_next, came_by_delivery, known_self}
@@ -22,7 +22,7 @@ use Rattle.rsvp_base.specs.TokenBucket.{TokenBucket}
 use Rattle.rsvp_messages.specs.declared.message.Message.TheVariants as message
 use Rattle.rsvp_messages.specs.declared.message.ResvMsg.{ResvMsg}
 use Rattle.rsvp_messages.specs.Units.{ask_style, tear_names, tear_style}
-use Rattle.laws_inputs.proofs.Knowing.{known_and_via}
+use Rattle.laws_bounds.proofs.Knowing.{known_and_via}
 use Rattle.laws_steps.specs.ReservationLaws.{Touches, TakesName, TouchesBy}
 use Rattle.router_rules.specs.Facts.{Facts, SenderKey, resvs_of, ResvState, ResvTables, table_of}
 use Rattle.router_rules.specs.Inputs.{Spelt, Came, Input, Arrival, Unspelt, Change}
@@ -49,8 +49,8 @@ use Rattle.rsvp_base.proofs.SetLaws.{and_made, and_both, has-cut, has-kept}
 use Rattle.rsvp_base.proofs.Tables.{tied_self, either, tied_same}
 use Rattle.rsvp_messages.specs.declared.message.ResvTearMsg.{ResvTearMsg}
 use Rattle.style_rules.specs.Lines.{LineKey, is_of_hop}
-use Rattle.laws_inputs.proofs.Receiving.{resv_tears_by_names}
-use Rattle.laws_inputs.proofs.Ruling.{rule_in_parts}
+use Rattle.laws_bounds.proofs.Receiving.{resv_tears_by_names}
+use Rattle.laws_bounds.proofs.Ruling.{rule_in_parts}
 use Rattle.router_rules.specs.Asking.{act_resv_tear, names_one, stays, asker_of, matched}
 use Rattle.rsvp_base.specs.declared.addr.Addr.{Addr}
 use Rattle.rsvp_messages.specs.declared.message.Message.{Message}

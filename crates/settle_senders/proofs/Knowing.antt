@@ -14,9 +14,9 @@ use Rattle.rsvp_messages.specs.declared.message.Message.TheVariants as message
 use Rattle.rsvp_messages.specs.declared.message.PathMsg.{PathMsg}
 use Rattle.rsvp_messages.specs.declared.message.ResvMsg.{ResvMsg}
 use Rattle.rsvp_messages.specs.Units.{AskedUnit, ask_style, asked_units}
-use Rattle.laws_inputs.specs.SendLaws.{IsAskedOf}
-use Rattle.laws_inputs.proofs.Asks.{units_told}
-use Rattle.laws_inputs.proofs.Knowing.{has-known, known_and_via}
+use Rattle.laws_bounds.specs.SendLaws.{IsAskedOf}
+use Rattle.laws_bounds.proofs.Asks.{units_told}
+use Rattle.laws_bounds.proofs.Knowing.{has-known, known_and_via}
 use Rattle.laws_steps.specs.ReservationLaws.{Touches}
 use Rattle.laws_steps.proofs.Asking.{what_keeps_a_reservation_fact}
 use Rattle.router_rules.specs.Facts.{Facts, PathState, SenderKey, resvs_of}

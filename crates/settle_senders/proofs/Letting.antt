@@ -43,7 +43,7 @@ use Rattle.router_rules.specs.Inputs.{Call, DropAs, Local}
 use Rattle.router_rules.specs.Known.{known, named_as}
 use Rattle.router_rules.specs.NodeConfig.{NodeConfig}
 use Rattle.router_rules.specs.Requests.{toward}
-use Rattle.laws_inputs.proofs.Knowing.{known_and_via, has-known}
+use Rattle.laws_bounds.proofs.Knowing.{known_and_via, has-known}
 use Rattle.router_rules.specs.Steps.{facts_then, node_step}
 use Rattle.rsvp_base.specs.declared.addr.Addr.{Addr}
 use Rattle.rsvp_base.specs.Styles.{name_of}
@@ -77,7 +77,7 @@ use Rattle.laws_steps.proofs.Asking.{what_keeps_a_reservation_fact}
 use Rattle.settle_paths.proofs.PreviousHops.{live_among}
 use Rattle.settle_network.specs.Settled.{HasSettled}
 use Rattle.tree_model.specs.declared.hops.LinkHop.{LinkHop}
-use Rattle.laws_inputs.proofs.Framing.{wants_then}
+use Rattle.laws_bounds.proofs.Framing.{wants_then}
 use Rattle.laws_network.specs.Known.{IsSameNet}
 use Rattle.settle_resvs.proofs.WantStyles.{want_parts}
 use Rattle.settle_passes.proofs.Calls.{IsCalled, called}

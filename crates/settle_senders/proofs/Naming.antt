@@ -11,8 +11,8 @@ use Rattle.rsvp_base.proofs.SetLaws.{and_both, has-kept}
 use Rattle.rsvp_base.proofs.Tables.{either}
 use Rattle.rsvp_messages.specs.Units.{ask_style}
 use Rattle.style_rules.specs.Lines.{LineKey}
-use Rattle.laws_inputs.proofs.Knowing.{known_and_via}
-use Rattle.laws_inputs.proofs.Leaving.{forgetting_by_names, left_by_names}
+use Rattle.laws_bounds.proofs.Knowing.{known_and_via}
+use Rattle.laws_bounds.proofs.Leaving.{forgetting_by_names, left_by_names}
 use Rattle.laws_steps.specs.ReservationLaws.{IsAskedFor}
 use Rattle.laws_steps.proofs.Asking.{where_a_reservation_fact_comes_from}
 use Rattle.router_rules.specs.Act.{act}

@@ -21,9 +21,9 @@ use Rattle.rsvp_messages.specs.Units.{ask_style}
 use Rattle.style_rules.specs.Lines.{LineKey}
 use Rattle.style_rules.specs.PartLaws.{part_at_most_itself, part_at_most_told}
 use Rattle.style_rules.specs.Parts.{IsPartAtMost}
-use Rattle.laws_inputs.specs.FactLaws.{is_way}
-use Rattle.laws_inputs.proofs.Framing.{wants_then}
-use Rattle.laws_inputs.proofs.Knowing.{has-known}
+use Rattle.laws_bounds.specs.FactLaws.{is_way}
+use Rattle.laws_bounds.proofs.Framing.{wants_then}
+use Rattle.laws_bounds.proofs.Knowing.{has-known}
 use Rattle.router_rules.specs.declared.answers.LocalErr.{LocalErr}
 use Rattle.router_rules.specs.Calls.{call_refusal, unless}
 use Rattle.router_rules.specs.Facts.{Facts, PathState, SenderKey, Want, WantKey, sender_keys}

@@ -24,14 +24,14 @@ use Rattle.rsvp_messages.specs.declared.message.ResvTearMsg.{ResvTearMsg}
 use Rattle.rsvp_messages.specs.Units.{tear_style}
 use Rattle.style_rules.specs.PartLaws.{part_at_most_told}
 use Rattle.style_rules.specs.Toward.{or_else}
-use Rattle.laws_inputs.specs.FactLaws.{is_way}
-use Rattle.laws_inputs.specs.Frames.{on_advertised, on_senders}
-use Rattle.laws_inputs.specs.SendLaws.{IsConf, IsError, IsPath, IsPathTear, IsResv, IsResvTear}
-use Rattle.laws_inputs.proofs.Framing.{act_advertised, act_senders, act_wants}
-use Rattle.laws_inputs.proofs.Lists.{none_in}
-use Rattle.laws_inputs.proofs.Offering.{offers_by_way}
-use Rattle.laws_inputs.proofs.Stepping.{send_told}
-use Rattle.laws_inputs.proofs.Tests.{not_new}
+use Rattle.laws_bounds.specs.FactLaws.{is_way}
+use Rattle.laws_bounds.specs.Frames.{on_advertised, on_senders}
+use Rattle.laws_bounds.specs.SendLaws.{IsConf, IsError, IsPath, IsPathTear, IsResv, IsResvTear}
+use Rattle.laws_bounds.proofs.Framing.{act_advertised, act_senders, act_wants}
+use Rattle.laws_bounds.proofs.Lists.{none_in}
+use Rattle.laws_bounds.proofs.Offering.{offers_by_way}
+use Rattle.laws_bounds.proofs.Stepping.{send_told}
+use Rattle.laws_bounds.proofs.Tests.{not_new}
 use Rattle.laws_steps.specs.AcceptingLaws.{came_resv}
 use Rattle.laws_steps.specs.ReservationLaws.{TakesName}
 use Rattle.laws_steps.specs.SpeakingLaws.{IsOfOffer}

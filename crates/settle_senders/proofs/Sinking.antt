@@ -10,7 +10,7 @@ use Rattle.settle_passes.specs.Reserving.{AreAskedFor, AllAsk, AreExactUpTo, Has
 use Rattle.settle_passes.specs.Calls.{HasItsPaths}
 use Rattle.laws_network.proofs.Standing.{same_end}
 use Rattle.settle_paths.proofs.PreviousHops.{ends_there, same_by_addr}
-use Rattle.laws_inputs.proofs.Lists.{one_name}
+use Rattle.laws_bounds.proofs.Lists.{one_name}
 use Rattle.rsvp_base.specs.declared.session.Sender.{Sender}
 use Rattle.tree_model.specs.Wants.{Locals, names, want}
 use Rattle.network_model.specs.Steps.{Deliver, outcome, sent, step, still}

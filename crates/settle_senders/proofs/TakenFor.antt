@@ -42,12 +42,12 @@ use Rattle.router_rules.specs.Inputs.{Change, Input, Came, Spelt}
 use Rattle.router_rules.specs.Known.{known, named_as}
 use Rattle.router_rules.specs.NodeConfig.{NodeConfig, goes_out, own}
 use Rattle.router_rules.specs.Requests.{is_style}
-use Rattle.laws_inputs.proofs.Knowing.{named_told, known_and_via}
-use Rattle.laws_inputs.proofs.Leaving.{forgetting_by_names, table_put}
-use Rattle.laws_inputs.proofs.Lists.{in_values, some_is, some_same}
-use Rattle.laws_inputs.proofs.Tests.{addr_tested, style_told}
-use Rattle.laws_inputs.specs.AskLaws.{IsOfUnit}
-use Rattle.laws_inputs.proofs.Taking.{units_source}
+use Rattle.laws_bounds.proofs.Knowing.{named_told, known_and_via}
+use Rattle.laws_bounds.proofs.Leaving.{forgetting_by_names, table_put}
+use Rattle.laws_bounds.proofs.Lists.{in_values, some_is, some_same}
+use Rattle.laws_bounds.proofs.Tests.{addr_tested, style_told}
+use Rattle.laws_bounds.specs.AskLaws.{IsOfUnit}
+use Rattle.laws_bounds.proofs.Taking.{units_source}
 use Rattle.router_rules.specs.Steps.{facts_then}
 use Rattle.laws_steps.specs.AcceptingLaws.{CanBeHeld, HasPlace, came_resv}
 use Rattle.laws_steps.proofs.Admitting.{what_is_accepted}

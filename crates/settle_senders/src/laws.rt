@@ -4,7 +4,7 @@ ghost use Rattle.rsvp_base.specs.declared.session.Session.{Session};
 ghost use Rattle.rsvp_base.specs.Members.{In};
 ghost use Rattle.rsvp_base.specs.Sets.{with_key};
 ghost use Rattle.rsvp_base.specs.TokenBucket.{IsSound, TokenBucket};
-ghost use Rattle.laws_inputs.specs.Frames.{calls_on_senders};
+ghost use Rattle.laws_bounds.specs.Frames.{calls_on_senders};
 ghost use Rattle.router_rules.specs.Facts.{SenderKey};
 ghost use Rattle.router_rules.specs.Inputs.{Local};
 ghost use Rattle.router_rules.specs.Steps.{IsFitCall};

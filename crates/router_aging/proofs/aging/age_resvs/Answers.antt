@@ -1,7 +1,7 @@
 use Rattle.std.proofs.Common.{sym, ap, subst, ◌∙◌}
 use Rattle.rsvp_base.specs.Table.{changed, empty}
 use Rattle.resv_state.specs.Resvs.{ResvFacts, ResvMap}
-use Rattle.laws_inputs.proofs.Leaving.{table_put}
+use Rattle.laws_bounds.proofs.Leaving.{table_put}
 use Rattle.resv_admission.specs.State.{resv_at}
 use Rattle.blockade_state.specs.Touched.{touched_by}
 use Rattle.resv_admission.specs.Kept.{IsBookOf, facts_with}
