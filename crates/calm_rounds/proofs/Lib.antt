@@ -2,3 +2,8 @@ pub mod Holding
 pub mod Settling
 pub mod Renewing
 pub mod BeaconLaws
+pub mod Renewed
+pub mod Windows
+pub mod LampLaws
+pub mod LampWindows
+pub mod FourRounds

@@ -3,3 +3,8 @@ pub mod Rounds
 pub mod Hold
 pub mod SoftStates
 pub mod Beacon
+pub mod Lamp
+pub mod LampWindows
+pub mod Loss
+pub mod Pace
+pub mod Windows

@@ -11,7 +11,7 @@ use Rattle.rsvp_base.proofs.Tables.{got_put_in}
 use Rattle.rsvp_messages.specs.declared.message.Message.TheVariants as message
 use Rattle.calm_rounds.specs.Machine.{run}
 use Rattle.calm_rounds.proofs.Holding.{hold_start}
-use Rattle.laws_loss.specs.Loss.{IsRefreshed, IsInTime}
+use Rattle.calm_rounds.specs.Loss.{IsRefreshed, IsInTime}
 use Rattle.tree_model.specs.declared.hops.LinkHop.{LinkHop}
 use Rattle.tree_model.specs.declared.locals.LocalSender.{LocalSender}
 use Rattle.tree_model.specs.Networks.{node_of, owner}

@@ -7,7 +7,7 @@ use Rattle.network_model.specs.Bounds.{AreBounds}
 use Rattle.network_model.specs.Steps.{Step, step, is_calm, machine}
 use Rattle.network_model.specs.Worlds.{World}
 use Rattle.network_model.proofs.Machines.{quiet_of}
-use Rattle.laws_loss.proofs.Renewed.{visited_any}
+use Rattle.calm_rounds.proofs.Renewed.{visited_any}
 use Rattle.laws_network.specs.Known.{IsKnown}
 use Rattle.laws_network.proofs.Keeping.{calm_fit, each_step_keeps_a_world_within_bounds}
 use Rattle.laws_network.proofs.Known.{same_kept}

@@ -7,8 +7,8 @@ use Rattle.calm_rounds.specs.Rounds.{AreQuiet}
 use Rattle.calm_rounds.specs.Hold.{Visited}
 use Rattle.calm_rounds.specs.SoftStates.{Good, Stands}
 use Rattle.calm_rounds.proofs.Holding.{visited_map, visited_both, visited_all, visited_keep}
-use Rattle.laws_loss.specs.Pace.{PaceLaws}
-use Rattle.laws_loss.proofs.Renewed.{never_dies}
+use Rattle.calm_rounds.specs.Pace.{PaceLaws}
+use Rattle.calm_rounds.proofs.Renewed.{never_dies}
 use Rattle.tree_model.specs.declared.hops.LinkHop.{LinkHop}
 use Rattle.tree_model.specs.Goals.{addr_of}
 use Rattle.tree_model.specs.Networks.{node_of}

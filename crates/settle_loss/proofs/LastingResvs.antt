@@ -6,10 +6,10 @@ use Rattle.calm_rounds.specs.Hold.{Visited, Hold}
 use Rattle.calm_rounds.specs.Rounds.{AreQuiet}
 use Rattle.calm_rounds.specs.SoftStates.{Good, Stands}
 use Rattle.calm_rounds.proofs.Holding.{visited_map, visited_both, visited_keep, hold_map, hold_both}
-use Rattle.laws_loss.specs.Pace.{PaceLaws}
-use Rattle.laws_loss.specs.Windows.{Windows, joined}
-use Rattle.laws_loss.proofs.Renewed.{never_dies}
-use Rattle.laws_loss.proofs.Windows.{windows_keep, kept_in_two}
+use Rattle.calm_rounds.specs.Pace.{PaceLaws}
+use Rattle.calm_rounds.specs.Windows.{Windows, joined}
+use Rattle.calm_rounds.proofs.Renewed.{never_dies}
+use Rattle.calm_rounds.proofs.Windows.{windows_keep, kept_in_two}
 use Rattle.tree_model.specs.Networks.{node_of}
 use Rattle.tree_model.specs.Trees.{hops_of}
 use Rattle.tree_model.specs.Valid.{IsValid}

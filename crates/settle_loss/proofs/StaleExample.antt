@@ -3,7 +3,7 @@ use Rattle.std.proofs.Common.{◌≡◌, ℕ, zero, suc, length, Some, arith, re
 use Rattle.std.specs.Option.{option_map}
 use Rattle.rsvp_base.specs.Table.{Table, empty, get}
 use Rattle.rsvp_base.specs.TokenBucket.{TokenBucket}
-use Rattle.laws_loss.proofs.FourRounds.{rounds_make_windows}
+use Rattle.calm_rounds.proofs.FourRounds.{rounds_make_windows}
 use Rattle.router_rules.specs.Facts.{Facts, SenderKey, sender_keys}
 use Rattle.router_rules.specs.Rule.{facts_with}
 use Rattle.network_model.specs.Bounds.{AreHosts}

@@ -4,8 +4,8 @@ use Rattle.rsvp_base.specs.declared.session.Session.{Session}
 use Rattle.calm_rounds.specs.Hold.{Hold}
 use Rattle.calm_rounds.specs.Machine.{Fresh}
 use Rattle.calm_rounds.proofs.Holding.{hold_map, hold_both, hold_later, hold_start}
-use Rattle.laws_loss.specs.Windows.{Windows}
-use Rattle.laws_loss.proofs.Windows.{windows_keep, windows_flush, windows_pass, windows_stack}
+use Rattle.calm_rounds.specs.Windows.{Windows}
+use Rattle.calm_rounds.proofs.Windows.{windows_keep, windows_flush, windows_pass, windows_stack}
 use Rattle.tree_model.specs.Ranks.{longest}
 use Rattle.network_model.specs.Bounds.{AreBounds}
 use Rattle.network_model.specs.Locals.{locals_of}

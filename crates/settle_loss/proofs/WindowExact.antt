@@ -8,8 +8,8 @@ use Rattle.calm_rounds.specs.Hold.{Hold}
 use Rattle.calm_rounds.specs.Machine.{run}
 use Rattle.calm_rounds.specs.SoftStates.{Stands}
 use Rattle.calm_rounds.proofs.Holding.{hold_map, hold_both, hold_all, hold_later, hold_start}
-use Rattle.laws_loss.specs.Windows.{Windows, joined}
-use Rattle.laws_loss.proofs.Windows.{windows_keep, windows_stack, any_back}
+use Rattle.calm_rounds.specs.Windows.{Windows, joined}
+use Rattle.calm_rounds.proofs.Windows.{windows_keep, windows_stack, any_back}
 use Rattle.tree_model.specs.Networks.{Net, node_of}
 use Rattle.tree_model.specs.Ranks.{longest}
 use Rattle.tree_model.specs.Trees.{hops_of}

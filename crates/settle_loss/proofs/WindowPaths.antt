@@ -6,8 +6,8 @@ use Rattle.calm_rounds.specs.Hold.{Hold}
 use Rattle.calm_rounds.specs.Machine.{Fresh, run}
 use Rattle.calm_rounds.specs.SoftStates.{KeepsOnly, SaysOnly, Good, Stands}
 use Rattle.calm_rounds.proofs.Holding.{hold_map, hold_both, hold_all, hold_later, hold_start}
-use Rattle.laws_loss.specs.Windows.{Windows, joined}
-use Rattle.laws_loss.proofs.Windows.{windows_keep, windows_always, windows_flush, windows_stack, any_back, dies_in_one, settles_in_two, kept_in_two}
+use Rattle.calm_rounds.specs.Windows.{Windows, joined}
+use Rattle.calm_rounds.proofs.Windows.{windows_keep, windows_always, windows_flush, windows_stack, any_back, dies_in_one, settles_in_two, kept_in_two}
 use Rattle.tree_model.specs.declared.hops.LinkHop.{LinkHop}
 use Rattle.tree_model.specs.Goals.{addr_of}
 use Rattle.tree_model.specs.Networks.{node_of}

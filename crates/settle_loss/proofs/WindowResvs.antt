@@ -4,8 +4,8 @@ use Rattle.calm_rounds.specs.Hold.{Hold, Keep}
 use Rattle.calm_rounds.specs.Machine.{Fresh}
 use Rattle.calm_rounds.specs.SoftStates.{KeepsOnly, SaysOnly}
 use Rattle.calm_rounds.proofs.Holding.{hold_map, hold_both, hold_all, hold_later, hold_start}
-use Rattle.laws_loss.specs.Windows.{Windows}
-use Rattle.laws_loss.proofs.Windows.{windows_keep, windows_flush, windows_stack, settles_in_two}
+use Rattle.calm_rounds.specs.Windows.{Windows}
+use Rattle.calm_rounds.proofs.Windows.{windows_keep, windows_flush, windows_stack, settles_in_two}
 use Rattle.tree_model.specs.Ranks.{longest}
 use Rattle.tree_model.specs.Valid.{IsValid}
 use Rattle.network_model.specs.Bounds.{AreBounds}

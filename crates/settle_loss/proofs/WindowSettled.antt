@@ -4,8 +4,8 @@ use Rattle.std.proofs.Common.{◌≡◌, ℕ, suc, ◌+◌, ◌*◌, List, arith
 use Rattle.rsvp_base.specs.declared.session.Session.{Session}
 use Rattle.calm_rounds.specs.Hold.{Hold}
 use Rattle.calm_rounds.proofs.Holding.{hold_all, hold_map, hold_both, hold_later}
-use Rattle.laws_loss.specs.Windows.{Windows, joined}
-use Rattle.laws_loss.proofs.Windows.{windows_stack}
+use Rattle.calm_rounds.specs.Windows.{Windows, joined}
+use Rattle.calm_rounds.proofs.Windows.{windows_stack}
 use Rattle.tree_model.specs.Ranks.{longest}
 use Rattle.network_model.specs.Bounds.{AreBounds, AreHosts, IsStart}
 use Rattle.network_model.specs.Locals.{locals_of}

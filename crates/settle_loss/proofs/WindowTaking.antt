@@ -3,7 +3,7 @@ use Rattle.std.proofs.Common.{◌≡◌, ℕ, ◌+◌, ◌*◌, List, true, arit
 use Rattle.rsvp_base.specs.declared.session.Session.{Session}
 use Rattle.calm_rounds.specs.Hold.{Hold}
 use Rattle.calm_rounds.proofs.Holding.{hold_map, hold_both, hold_later}
-use Rattle.laws_loss.specs.Windows.{Windows, joined}
+use Rattle.calm_rounds.specs.Windows.{Windows, joined}
 use Rattle.tree_model.specs.Ranks.{longest}
 use Rattle.network_model.specs.Bounds.{AreBounds, AreHosts}
 use Rattle.network_model.specs.Locals.{locals_of}

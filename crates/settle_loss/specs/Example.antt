@@ -1,7 +1,7 @@
 -- The pair of nodes meets the premises of the laws: with a path that stands, while two of any three Paths are lost; and with a path
 -- and with a reservation that are left over, in windows.
 use Rattle.std.specs.Prelude.{◌≤◌, ℕ, List, [], ◌∷◌}
-use Rattle.laws_loss.specs.Windows.{Windows, joined, four_by_four}
+use Rattle.calm_rounds.specs.Windows.{Windows, joined, four_by_four}
 use Rattle.calm_rounds.specs.Machine.{run}
 use Rattle.calm_rounds.specs.Rounds.{AreQuiet}
 use Rattle.tree_model.specs.Trees.{tree}

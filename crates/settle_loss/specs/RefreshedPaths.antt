@@ -6,7 +6,7 @@ use Rattle.rsvp_base.specs.TokenBucket.{TokenBucket}
 use Rattle.rsvp_messages.specs.declared.message.Message.TheVariants as message
 use Rattle.rsvp_messages.specs.declared.message.PathMsg.{PathMsg}
 use Rattle.rsvp_messages.specs.declared.message.PathTearMsg.{PathTearMsg}
-use Rattle.laws_loss.specs.Loss.{IsRefreshed}
+use Rattle.calm_rounds.specs.Loss.{IsRefreshed}
 use Rattle.router_rules.specs.Facts.{SenderKey}
 use Rattle.router_rules.specs.Inputs.{Spelt}
 use Rattle.tree_model.specs.declared.hops.LinkHop.{LinkHop}

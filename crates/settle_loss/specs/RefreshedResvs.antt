@@ -7,7 +7,7 @@ use Rattle.rsvp_base.specs.Members.{In}
 use Rattle.rsvp_base.specs.Table.{get}
 use Rattle.rsvp_messages.specs.declared.message.Message.TheVariants as message
 use Rattle.rsvp_messages.specs.declared.message.ResvMsg.{ResvMsg}
-use Rattle.laws_loss.specs.Loss.{IsRefreshed}
+use Rattle.calm_rounds.specs.Loss.{IsRefreshed}
 use Rattle.router_rules.specs.Inputs.{Spelt}
 use Rattle.tree_model.specs.Goals.{addr_of}
 use Rattle.tree_model.specs.Networks.{Net, node_of}

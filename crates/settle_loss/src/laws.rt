@@ -14,7 +14,7 @@ ghost use Rattle.settle_loss.specs.RefreshedResvs.{AreResvsFull, AreResvsRefresh
 ghost use Rattle.std.specs.Prelude.{◌≡◌, ◌+◌, ◌*◌, ℕ, List, true};
 ghost use Rattle.calm_rounds.specs.Rounds.{AreQuiet};
 ghost use Rattle.calm_rounds.specs.Hold.{Visited, Hold};
-ghost use Rattle.laws_loss.specs.Windows.{Windows, joined};
+ghost use Rattle.calm_rounds.specs.Windows.{Windows, joined};
 ghost use Rattle.tree_model.specs.Ranks.{longest};
 ghost use Rattle.network_model.specs.Bounds.{AreBounds, AreHosts, IsStart};
 ghost use Rattle.network_model.specs.Locals.{locals_of};

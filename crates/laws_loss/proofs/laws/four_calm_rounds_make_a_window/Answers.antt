@@ -1,5 +1,0 @@
-use Rattle.laws_loss.proofs.FourRounds.{rounds_make_windows}
-use Rattle.laws_loss.proofs.laws.four_calm_rounds_make_a_window.Goals as goal
-
-pub returns : goal.returns
-returns g c m = rounds_make_windows m

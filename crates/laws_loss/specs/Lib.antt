@@ -1,5 +1,0 @@
-pub mod Lamp
-pub mod LampWindows
-pub mod Loss
-pub mod Pace
-pub mod Windows
