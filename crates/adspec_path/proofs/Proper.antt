@@ -6,9 +6,9 @@ use Rattle.std.proofs.lemmas.Bool.{eqb-false, cases_lt}
 use Rattle.rsvp_base.specs.Rates.{IsRate}
 use Rattle.rsvp_base.specs.declared.flow.Peak.{Peak}
 use Rattle.rsvp_base.specs.declared.flow.Peak.TheVariants.{Finite, Infinite}
-use Rattle.object_fields.specs.Fragment.{counted, is_broken, marked}
-use Rattle.object_fields.specs.RateLaws.{IsPeak}
-use Rattle.object_fields.proofs.Lists.{marked_fragments}
+use Rattle.rsvp_objects.specs.Fragment.{counted, is_broken, marked}
+use Rattle.rsvp_objects.specs.RateLaws.{IsPeak}
+use Rattle.rsvp_objects.proofs.Lists.{marked_fragments}
 use Rattle.adspec_path.specs.Composing.{WhatIsComposedCanBeWritten, least_rate, pass_on, start}
 use Rattle.adspec_path.specs.RateBelow.{rate_below}
 use Rattle.adspec_path.proofs.Largest.{of_rate_below}

@@ -8,7 +8,7 @@ use Rattle.std.proofs.lemmas.Slice.Eq.{bytes_eq-Decides}
 use Rattle.rsvp_base.proofs.SetLaws.{and_both, and_made}
 use Rattle.rsvp_base.specs.declared.flow.Peak.{Peak}
 use Rattle.rsvp_base.specs.declared.flow.Peak.TheVariants.{Finite, Infinite}
-use Rattle.object_fields.specs.declared.adspec.Adspec.{Adspec}
+use Rattle.rsvp_objects.specs.declared.adspec.Adspec.{Adspec}
 use Rattle.adspec_path.specs.Same.{SameIsEqual, same_adspec, same_load, same_rate, same_told}
 
 bit_told : (b c : Bool) → beq b c ≡ true → b ≡ c

@@ -2,7 +2,7 @@
 use Rattle.std.specs.Prelude.{◌≡◌, ℕ, ◌+◌, min, List, [], ◌∷◌, length, map as each, false, Some}
 use Rattle.rsvp_base.specs.declared.flow.Peak.TheVariants.{Finite}
 use Rattle.rsvp_base.specs.declared.iface.Iface.{Iface}
-use Rattle.object_fields.specs.declared.adspec.Adspec.{Adspec}
+use Rattle.rsvp_objects.specs.declared.adspec.Adspec.{Adspec}
 use Rattle.adspec_path.specs.Composing.{clamped, pass_on, start}
 use Rattle.adspec_path.specs.RateBelow.{rate_below}
 

@@ -4,9 +4,9 @@ use Rattle.std.specs.Prelude.{ℕ, ◌+◌, ◌-◌, ◌^◌, min, [], false, So
 use Rattle.rsvp_base.specs.declared.flow.Peak.{Peak}
 use Rattle.rsvp_base.specs.declared.flow.Peak.TheVariants.{Finite, Infinite}
 use Rattle.rsvp_base.specs.declared.iface.Iface.{Iface}
-use Rattle.object_fields.specs.declared.adspec.Adspec.{Adspec}
-use Rattle.object_fields.specs.AdspecLaws.{IsAdspec}
-use Rattle.object_fields.specs.Fragment.{marked}
+use Rattle.rsvp_objects.specs.declared.adspec.Adspec.{Adspec}
+use Rattle.rsvp_objects.specs.AdspecLaws.{IsAdspec}
+use Rattle.rsvp_objects.specs.Fragment.{marked}
 use Rattle.adspec_path.specs.RateBelow.{rate_below}
 
 -- the number, or the most that a field of 32 bits holds: of a latency, that it is not known (3.4)

@@ -1,7 +1,7 @@
 -- The largest rate that is at most a number: what a rate word can tell of it (RFC 2210, 3.1).
 use Rattle.std.specs.Prelude.{◌≡◌, ◌↔◌, ℕ, ◌-◌, ◌*◌, ◌/◌, ◌^◌, ◌≤◌, min}
 use Rattle.rsvp_base.specs.Rates.{IsRate}
-use Rattle.object_fields.specs.RateWord.{highest_bit}
+use Rattle.rsvp_objects.specs.RateWord.{highest_bit}
 
 pub record IsRateBelow (n r : ℕ) : Type 0 where
   pub rate : IsRate r

@@ -2,8 +2,8 @@
 ghost use Rattle.std.specs.Prelude.{◌≡◌};
 ghost use Rattle.adspec_path.specs.Same.{same_adspec, same_load, same_rate, same_told};
 
-use object_fields::Adspec;
 use rsvp_base::Peak;
+use rsvp_objects::Adspec;
 
 /// Whether two ADSPECs are the same, or both are missing.
 pub fn same_told(a: &Option<Adspec>, b: &Option<Adspec>) -> bool

@@ -3,8 +3,8 @@ ghost use Rattle.std.specs.Prelude.{◌≡◌};
 ghost use Rattle.adspec_path.specs.Composing.{least_rate, pass_on, start};
 
 use crate::rates::rate_below;
-use object_fields::{Adspec, Fragments};
 use rsvp_base::{Iface, Peak, Rate};
+use rsvp_objects::{Adspec, Fragments};
 
 /// The ADSPEC with which the Path of a sender leaves the sender's own node by this interface (RFC 2210, 3.3): one hop, what the
 /// interface has, nothing broken, controlled load, and no other service.

@@ -7,8 +7,8 @@ use Rattle.rsvp_base.specs.declared.addr.Addr.{Addr}
 use Rattle.rsvp_base.specs.Members.{In}
 use Rattle.rsvp_base.specs.declared.session.Sender.{Sender}
 use Rattle.rsvp_messages.specs.Proper.{WhereThere}
-use Rattle.rsvp_messages.specs.RsvpObjects.ObjectFields.AdspecLaws.{IsAdspec}
-use Rattle.rsvp_messages.specs.RsvpObjects.ObjectFields.declared.adspec.Adspec.{Adspec}
+use Rattle.rsvp_messages.specs.RsvpObjects.AdspecLaws.{IsAdspec}
+use Rattle.rsvp_messages.specs.RsvpObjects.declared.adspec.Adspec.{Adspec}
 use Rattle.rsvp_messages.specs.declared.message.Message.{Message}
 use Rattle.rsvp_messages.specs.declared.message.Message.TheVariants as message
 use Rattle.rsvp_base.specs.TokenBucket.{TokenBucket, IsSound}

@@ -12,7 +12,7 @@ use Rattle.value_texts.specs.AdspecText.{adspec_words, broken_text, load_text, p
 use Rattle.value_texts.specs.Reports.{entry_text, head_text, held_of}
 use Rattle.value_texts.specs.Texts.{peak_text, sender_text, session_text}
 use Rattle.network_model.specs.RouterRules.Adverts.{adverts_at}
-use Rattle.network_model.specs.RouterRules.RsvpMessages.RsvpObjects.ObjectFields.declared.adspec.Adspec.{Adspec}
+use Rattle.network_model.specs.RouterRules.RsvpMessages.RsvpObjects.declared.adspec.Adspec.{Adspec}
 use Rattle.network_model.specs.RouterRules.RsvpMessages.declared.message.Kind.{Kind}
 use Rattle.network_model.specs.RouterRules.RsvpMessages.declared.message.Kind.TheVariants as kind
 use Rattle.network_model.specs.RouterRules.RsvpMessages.Kinds.{kind_of}

@@ -1,6 +1,6 @@
 //! An ADSPEC byte by byte, and contents that are none.
-use object_fields::{Adspec, Packet, read_adspec, write_adspec};
 use rsvp_base::{Peak, Rate};
+use rsvp_objects::{Adspec, Packet, read_adspec, write_adspec};
 use std::test::Fail;
 
 // 1 hop, 10,000 bytes per second, 100 microseconds, an MTU of 1,500 bytes; controlled load, and an empty fragment of service 2.

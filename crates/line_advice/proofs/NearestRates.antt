@@ -6,7 +6,7 @@ use Rattle.std.proofs.lemmas.Nat.{le-div, leading_top, mul-le, pow-add}
 use Rattle.std.proofs.lemmas.Nat.Bits.{bit_at_above}
 use Rattle.std.proofs.lemmas.Bool.{cases_lt}
 use Rattle.rsvp_base.specs.Rates.{IsRate}
-use Rattle.object_fields.proofs.Scaled.{multiple_below, rate_of_product}
+use Rattle.rsvp_objects.proofs.Scaled.{multiple_below, rate_of_product}
 use Rattle.line_advice.specs.FlowFaults.{AreNearest, NoRateIsLarger, largest_rate}
 
 -- ---- the largest rate

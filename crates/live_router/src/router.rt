@@ -10,10 +10,10 @@ ghost use Rattle.network_replay.specs.Following.{AreProper};
 use crate::live_router::LiveRouter;
 use network_model::LocalCall;
 use network_replay::Router;
-use object_fields::Adspec;
 use router_rules::{Entry, Heard, LocalErr, Outbox, Route};
 use rsvp_base::{Addr, Sender, Session};
 use rsvp_messages::{Message, MsgErr};
+use rsvp_objects::Adspec;
 use std::mem;
 
 impl Router for LiveRouter {

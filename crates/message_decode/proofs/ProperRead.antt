@@ -15,7 +15,7 @@ use Rattle.rsvp_base.proofs.Members.{in_tied}
 use Rattle.rsvp_base.proofs.SetLaws.{size-with_rows}
 use Rattle.rsvp_base.proofs.Tables.{got_put_in, size-put_in}
 use Rattle.rsvp_objects.specs.Classes as number
-use Rattle.rsvp_objects.specs.ObjectFields.AdspecLaws.{IsAdspec}
+use Rattle.rsvp_objects.specs.AdspecLaws.{IsAdspec}
 use Rattle.rsvp_objects.specs.declared.object.Object.{Object}
 use Rattle.rsvp_objects.specs.declared.object.Object.TheVariants as object
 use Rattle.rsvp_objects.specs.Proper as objects

@@ -12,7 +12,7 @@ use Rattle.rsvp_base.specs.declared.session.Session.{Session}
 use Rattle.rsvp_base.specs.declared.style.StyleKind.{StyleKind}
 use Rattle.rsvp_base.specs.TokenBucket.{TokenBucket}
 use Rattle.rsvp_objects.specs.Classes as number
-use Rattle.rsvp_objects.specs.ObjectFields.declared.adspec.Adspec.{Adspec}
+use Rattle.rsvp_objects.specs.declared.adspec.Adspec.{Adspec}
 use Rattle.rsvp_objects.specs.declared.read_class.ReadClass.{ReadClass}
 use Rattle.rsvp_objects.specs.declared.head.Head.{Head}
 use Rattle.rsvp_objects.specs.declared.object.Object.{Object}

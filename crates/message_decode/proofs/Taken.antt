@@ -1,7 +1,7 @@
 -- What was added, from what a step tells; and what is read of an object of a class that is skipped.
 use Rattle.std.proofs.Common.{◌≡◌, ℕ, Bool, true, false, List, Option, Some, None, Result, Ok, Err, refl, ap}
 use Rattle.std.specs.Prelude.{not, ◌||◌, ◌==◌, is_some, if◌then◌else◌}
-use Rattle.rsvp_objects.specs.ObjectFields.declared.adspec.Adspec.{Adspec}
+use Rattle.rsvp_objects.specs.declared.adspec.Adspec.{Adspec}
 use Rattle.rsvp_objects.specs.declared.obj_err.ObjErr.{ObjErr}
 use Rattle.rsvp_objects.specs.declared.object.Object.{Object}
 use Rattle.rsvp_objects.specs.declared.object.Object.TheVariants as object

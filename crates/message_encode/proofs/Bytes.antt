@@ -7,8 +7,8 @@ use Rattle.rsvp_base.specs.declared.style.StyleKind.TheVariants.{Wild, Fixed, Sh
 use Rattle.rsvp_base.specs.declared.flow.Peak.TheVariants.{Finite}
 use Rattle.rsvp_base.specs.Table.{keys}
 use Rattle.rsvp_base.specs.TokenBucket.{TokenBucket}
-use Rattle.rsvp_objects.specs.ObjectFields.declared.adspec.Adspec.{Adspec}
-use Rattle.rsvp_objects.specs.ObjectFields.Spelling.{behind, parameter, general_bytes, adspec_bytes}
+use Rattle.rsvp_objects.specs.declared.adspec.Adspec.{Adspec}
+use Rattle.rsvp_objects.specs.AdspecSpelling.{behind, parameter, general_bytes, adspec_bytes}
 use Rattle.rsvp_objects.specs.declared.object.Object.{Object}
 use Rattle.rsvp_objects.specs.declared.object.Object.TheVariants as object
 use Rattle.rsvp_objects.specs.Contents.{session_bytes, hop_bytes, error_bytes, scope_bytes, source_bytes, style_number, style_bytes, sender_bytes, in_place, not_guilty, e_police}

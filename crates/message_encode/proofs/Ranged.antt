@@ -11,7 +11,7 @@ use Rattle.rsvp_base.specs.Table.{keys}
 use Rattle.rsvp_base.specs.TokenBucket.{TokenBucket}
 use Rattle.rsvp_base.proofs.Lists.{has_keys}
 use Rattle.rsvp_base.proofs.Members.{tied_in}
-use Rattle.rsvp_objects.specs.ObjectFields.declared.adspec.Adspec.{Adspec}
+use Rattle.rsvp_objects.specs.declared.adspec.Adspec.{Adspec}
 use Rattle.rsvp_objects.specs.declared.object.Object.{Object}
 use Rattle.rsvp_objects.specs.declared.object.Object.TheVariants as object
 use Rattle.rsvp_objects.specs.Proper.{IsSender, IsSource, IsProper as IsProperObject}

@@ -8,9 +8,9 @@ use Rattle.rsvp_base.specs.declared.style.StyleKind.TheVariants.{Wild, Fixed, Sh
 use Rattle.rsvp_base.specs.Orders.{Names}
 use Rattle.rsvp_base.specs.Table.{keys, size}
 use Rattle.rsvp_base.specs.TokenBucket.{TokenBucket}
-use Rattle.rsvp_objects.specs.ObjectFields.declared.adspec.Adspec.{Adspec}
-use Rattle.rsvp_objects.proofs.ObjectFields.Again.{few_words}
-use Rattle.rsvp_objects.proofs.ObjectFields.Bytes.{body_size}
+use Rattle.rsvp_objects.specs.declared.adspec.Adspec.{Adspec}
+use Rattle.rsvp_objects.proofs.AdspecAgain.{few_words}
+use Rattle.rsvp_objects.proofs.Bytes.{body_size}
 use Rattle.rsvp_objects.specs.declared.object.Object.{Object}
 use Rattle.rsvp_objects.specs.declared.object.Object.TheVariants as object
 use Rattle.rsvp_objects.specs.Spelling.{spelling}

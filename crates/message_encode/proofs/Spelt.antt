@@ -19,8 +19,8 @@ use Rattle.rsvp_base.specs.Sets.{listed}
 use Rattle.rsvp_base.specs.Table.{Table, empty, get, has, keys, size, put_in, with_rows, first, second}
 use Rattle.rsvp_base.specs.TokenBucket.{TokenBucket}
 use Rattle.rsvp_base.proofs.Tables.{either, tied_same, tied_self, none_above, got_put_in, size-put_in}
-use Rattle.rsvp_objects.specs.ObjectFields.declared.adspec.Adspec.{Adspec}
-use Rattle.rsvp_objects.specs.ObjectFields.AdspecLaws.{IsAdspec}
+use Rattle.rsvp_objects.specs.declared.adspec.Adspec.{Adspec}
+use Rattle.rsvp_objects.specs.AdspecLaws.{IsAdspec}
 use Rattle.rsvp_objects.specs.declared.object.Object.{Object}
 use Rattle.rsvp_objects.specs.declared.object.Object.TheVariants as object
 use Rattle.rsvp_objects.specs.Proper as objects

@@ -16,9 +16,9 @@ use Rattle.rsvp_base.specs.Orders.{Names}
 use Rattle.rsvp_base.specs.Rates.{IsRate}
 use Rattle.rsvp_base.specs.Table.{keys, size}
 use Rattle.rsvp_base.specs.TokenBucket.{TokenBucket, IsSound}
-use Rattle.rsvp_objects.specs.ObjectFields.declared.adspec.Adspec.{Adspec}
-use Rattle.rsvp_objects.specs.ObjectFields.Fragment.{missing, heads, all_other, IsFragments}
-use Rattle.rsvp_objects.specs.ObjectFields.AdspecLaws.{IsAdspec}
+use Rattle.rsvp_objects.specs.declared.adspec.Adspec.{Adspec}
+use Rattle.rsvp_objects.specs.Fragment.{missing, heads, all_other, IsFragments}
+use Rattle.rsvp_objects.specs.AdspecLaws.{IsAdspec}
 use Rattle.rsvp_objects.specs.Classes.{is_skipped}
 use Rattle.rsvp_objects.specs.declared.object.Object.{Object}
 use Rattle.rsvp_objects.specs.declared.object.Object.TheVariants as object

@@ -13,8 +13,8 @@ use Rattle.rsvp_base.specs.declared.session.Session.{Session}
 use Rattle.rsvp_base.specs.Orders.{Names}
 use Rattle.rsvp_base.specs.Table.{keys, size}
 use Rattle.rsvp_base.specs.TokenBucket.{TokenBucket}
-use Rattle.rsvp_objects.specs.ObjectFields.declared.adspec.Adspec.{Adspec}
-use Rattle.rsvp_objects.specs.ObjectFields.Fragment.{missing, heads, all_other}
+use Rattle.rsvp_objects.specs.declared.adspec.Adspec.{Adspec}
+use Rattle.rsvp_objects.specs.Fragment.{missing, heads, all_other}
 use Rattle.rsvp_objects.specs.Classes.{is_skipped}
 use Rattle.rsvp_objects.specs.declared.object.Object.{Object}
 use Rattle.rsvp_objects.specs.declared.object.Object.TheVariants as object

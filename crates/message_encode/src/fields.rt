@@ -1,7 +1,7 @@
 //! What the types of fields know of their numbers, made known to proofs.
 ghost use Rattle.std.specs.Prelude.{◌<◌, ◌^◌};
 ghost use Rattle.std.specs.List.{AllByRecursion};
-ghost use Rattle.rsvp_objects.specs.ObjectFields.AdspecLaws.{IsAdspec};
+ghost use Rattle.rsvp_objects.specs.AdspecLaws.{IsAdspec};
 ghost use Rattle.rsvp_objects.specs.declared.object.Object.TheVariants as AnObject;
 ghost use Rattle.rsvp_objects.specs.Proper.{IsSession, IsSender, IsFlow, IsHop, IsError, IsAddr};
 ghost use Rattle.rsvp_objects.specs.RateLaws.{IsPeak};

@@ -13,7 +13,7 @@ use Rattle.rsvp_messages.specs.declared.message.ResvMsg.{ResvMsg}
 use Rattle.rsvp_messages.specs.declared.message.ResvTearMsg.{ResvTearMsg}
 use Rattle.value_texts.specs.Texts.{sender_text, session_text}
 use Rattle.value_texts.specs.AdspecText.{adspec_words}
-use Rattle.rsvp_objects.specs.ObjectFields.declared.adspec.Adspec.{Adspec}
+use Rattle.rsvp_objects.specs.declared.adspec.Adspec.{Adspec}
 use Rattle.message_show.specs.PartTexts.{where_set, where_there, hop_text, period_text, confirm_text, error_text, offer_text, ask_text, tear_text, blame_text}
 
 -- sender SENDER FLOW

@@ -7,7 +7,7 @@ use Rattle.rsvp_base.specs.declared.part.Part.{Part}
 use Rattle.value_texts.specs.AdspecText.{adspec_words}
 use Rattle.value_texts.specs.Reports.{entry_line, head_text, held_of, book_text}
 use Rattle.value_texts.specs.Texts.{sender_text, session_text}
-use Rattle.router_examples.specs.RsvpMessages.RsvpObjects.ObjectFields.declared.adspec.Adspec.{Adspec}
+use Rattle.router_examples.specs.RsvpMessages.RsvpObjects.declared.adspec.Adspec.{Adspec}
 use Rattle.router_examples.specs.RouterRules.Facts.{SenderKey}
 use Rattle.router_examples.specs.RouterRules.declared.entry.Entry.{Entry}
 use Rattle.router_examples.specs.RouterRules.declared.entry.Police.{Police}

@@ -3,7 +3,7 @@
 --   kind 16  a datagram goes out: interface 1, destination 4, the datagram
 --   kind 17  what was made of a datagram: 0, taken; 1 and why it was dropped; 2, an error was sent back, its code 1 and its value 2
 use Rattle.std.specs.Prelude.{ℕ, List, [], ◌∷◌, ◌++◌}
-use Rattle.object_fields.specs.Fields.{half, word}
+use Rattle.rsvp_objects.specs.Fields.{half, word}
 use Rattle.rsvp_base.specs.declared.addr.Addr.{Addr}
 use Rattle.router_rules.specs.declared.answers.Heard.{Heard}
 use Rattle.router_rules.specs.declared.answers.Heard.TheVariants.{Taken, Dropped, Answered}

@@ -1,6 +1,6 @@
 -- Bytes as frames, one after the other.
 use Rattle.std.specs.Prelude.{◌≡◌, ℕ, ◌+◌, ◌<◌, ◌≤◌, List, length, drop}
-use Rattle.object_fields.specs.Fields.{byte_at}
+use Rattle.rsvp_objects.specs.Fields.{byte_at}
 use Rattle.node_stream.specs.Layout.{length_at}
 
 -- a head of three bytes, and as many behind it as it says

@@ -8,7 +8,7 @@
 --   kind 4   the router is cleared: nothing
 use Rattle.std.specs.Prelude.{◌≡◌, ◌≤◌, ℕ, ◌+◌, ◌*◌, ◌==◌, nat_le, Bool, ◌&&◌, List, ◌∷◌, ◌++◌, length, drop, Option, None, Some, if◌then◌else◌}
 use Rattle.byteorder.specs.Endian.{big_number}
-use Rattle.object_fields.specs.Fields.{addr_at, byte_at, half, half_at, word_at}
+use Rattle.rsvp_objects.specs.Fields.{addr_at, byte_at, half, half_at, word_at}
 use Rattle.rsvp_base.specs.declared.addr.Addr.{Addr}
 use Rattle.rsvp_base.specs.declared.iface.Iface.{Iface}
 use Rattle.router_rules.specs.declared.route.Route.{Route}

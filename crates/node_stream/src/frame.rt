@@ -7,8 +7,8 @@ ghost use Rattle.node_stream.specs.Rules.{IsInTurn};
 
 use crate::blame::Blame;
 use crate::layout::is_opening;
-use object_fields::{addr_at, half_at, word_at};
 use rsvp_base::Addr;
+use rsvp_objects::{addr_at, half_at, word_at};
 
 /// What a frame says, but for the lists that stay in its contents.
 #[derive(Clone, Copy, Debug, PartialEq, Eq)]

@@ -3,9 +3,9 @@ ghost use Rattle.std.specs.Prelude.{◌≡◌, ◌≤◌, ◌<◌, ◌+◌, ◌*
 ghost use Rattle.node_stream.specs.Layout as spec;
 
 use byteorder::{BigEndian, ByteOrder};
-use object_fields::{addr_at, half_at, word_at};
 use router_rules::Route;
 use rsvp_base::Iface;
+use rsvp_objects::{addr_at, half_at, word_at};
 
 // The bytes of the period and the number of interfaces; of an interface; of the number of routes; of a route.
 const HEAD_SIZE: usize = 5;

@@ -6,7 +6,7 @@
 //! frames of all that it sends and of what it made of a datagram, before the source is asked for more. Its clause says by how it ended
 //! exactly which frames were taken and what was written. Memory is taken before the first byte is read, and at the first frame,
 //! alone. It stands on `network_replay` (what is asked of a router), `laws_bounds` (no answer lacks room), `router_rules`,
-//! `object_fields`, `value_texts` and `byte_streams`.
+//! `rsvp_objects`, `value_texts` and `byte_streams`.
 #![tactic(auto)]
 
 mod acting;

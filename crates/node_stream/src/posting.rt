@@ -6,10 +6,10 @@ ghost use Rattle.node_stream.specs.Posting.{nothing_posted, with_post};
 
 use crate::answers::{put_heard, put_sent};
 use message_encode::encode_into;
-use object_fields::Packet;
 use router_rules::{Heard, Outbox};
 use rsvp_base::{Addr, NoMemory};
 use rsvp_messages::Message;
+use rsvp_objects::Packet;
 use std::alloc::Global;
 use std::marker::Model;
 

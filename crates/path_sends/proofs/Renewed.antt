@@ -3,7 +3,7 @@ use Rattle.std.specs.Prelude.{◌≡◌, ℕ, Bool, true, false, is_some, [], ma
 use Rattle.std.proofs.Common.{ap}
 use Rattle.adspec_path.specs.Same.{same_told}
 use Rattle.adspec_path.proofs.Same.{same_is_equal}
-use Rattle.object_fields.specs.declared.adspec.Adspec.{Adspec}
+use Rattle.rsvp_objects.specs.declared.adspec.Adspec.{Adspec}
 use Rattle.rsvp_base.specs.TokenBucket.{TokenBucket}
 use Rattle.router_rules.specs.Facts.{SenderKey}
 use Rattle.router_rules.specs.NodeConfig.{NodeConfig, outward}

@@ -1,7 +1,7 @@
 -- Offers as the code has them.
 use Rattle.std.specs.Prelude.{◌&&◌, Bool, true, false, Option, None, Some}
 use Rattle.adspec_path.specs.Same.{same_adspec}
-use Rattle.object_fields.specs.declared.adspec.Adspec.{Adspec}
+use Rattle.rsvp_objects.specs.declared.adspec.Adspec.{Adspec}
 use Rattle.path_state.specs.declared.fact.PathFact.{PathFact}
 use Rattle.rsvp_base.specs.TokenBucket.{TokenBucket}
 use Rattle.router_rules.specs.declared.advert.Advert.{Advert}

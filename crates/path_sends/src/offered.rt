@@ -9,9 +9,9 @@ ghost use Rattle.router_rules.specs.declared.advert.Advert.TheVariants.{Passes};
 ghost use Rattle.path_sends.specs.Offering.{as_offer, is_offered_again, passed_offer, same_source};
 
 use adspec_path::{pass_on, same_adspec, same_told, start};
-use object_fields::Adspec;
 use router_rules::Advert;
 use rsvp_base::{Flow, Iface};
+use rsvp_objects::Adspec;
 
 /// What a node offers of a sender: what it sends, in the sender's own words where it is a local one, else in those of its
 /// path; and where the ADSPEC of its Paths comes from.

@@ -8,11 +8,11 @@ ghost use Rattle.router_rules.specs.Offers.{Offer};
 use crate::offered::{Offered, is_same_flow};
 use crate::paths::tell_new;
 use adspec_path::same_told;
-use object_fields::Adspec;
 use path_state::PathFact;
 use router_rules::Outbox;
 use router_state::Config;
 use rsvp_base::{Flow, Sender, Session};
+use rsvp_objects::Adspec;
 
 /// What is offered of a sender before and after its path is kept anew, where that may be new.
 #[derive(Drop)]

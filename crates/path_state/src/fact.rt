@@ -1,8 +1,8 @@
 //! Facts of paths.
 ghost use Rattle.std.specs.Prelude.{◌≡◌};
 
-use object_fields::Adspec;
 use rsvp_base::{Flow, Hop, Sender, Session};
+use rsvp_objects::Adspec;
 use soft_table::Fact;
 use std::cmp::Ordering;
 

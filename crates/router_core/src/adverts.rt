@@ -9,9 +9,9 @@ ghost use Rattle.router_state.specs.State.{facts_at};
 
 use crate::node::Node;
 use local_state::Countdowns;
-use object_fields::Adspec;
 use path_state::{PathFact, PathTable, copy_of};
 use rsvp_base::{Sender, Session};
+use rsvp_objects::Adspec;
 
 impl Node {
     /// The ADSPEC that the path of a sender keeps: that of the last Path that was taken (RFC 2210, 3.3). `None` exactly where the sender

@@ -12,7 +12,7 @@ use Rattle.router_rules.specs.RsvpMessages.declared.fault.Fault.{Fault}
 use Rattle.router_rules.specs.RsvpMessages.declared.fault.Fault.TheVariants as fault
 use Rattle.router_rules.specs.RsvpMessages.declared.fault.MsgErr.{MsgErr}
 use Rattle.router_rules.specs.RsvpObjects.declared.obj_err.ObjErr.TheVariants as obj
-use Rattle.router_rules.specs.RsvpObjects.ObjectFields.declared.adspec.Adspec.{Adspec}
+use Rattle.router_rules.specs.RsvpObjects.declared.adspec.Adspec.{Adspec}
 use Rattle.router_rules.specs.declared.answers.Heard.TheVariants as heard
 use Rattle.router_rules.specs.declared.answers.Why.TheVariants as why
 use Rattle.router_rules.specs.declared.answers.LocalErr.TheVariants as local

@@ -12,7 +12,7 @@ use Rattle.rsvp_base.specs.SessionLimits.{IsWithinSessionLimits}
 use Rattle.rsvp_base.specs.Table.{get, has, size}
 use Rattle.rsvp_base.specs.TokenBucket.{TokenBucket, IsSound}
 use Rattle.rsvp_messages.specs.Proper.{WhereThere}
-use Rattle.rsvp_messages.specs.RsvpObjects.ObjectFields.AdspecLaws.{IsAdspec}
+use Rattle.rsvp_messages.specs.RsvpObjects.AdspecLaws.{IsAdspec}
 use Rattle.style_rules.specs.Limits.{IsWithinLimits}
 use Rattle.style_rules.specs.Lines.{LineKey, held}
 use Rattle.rsvp_base.specs.declared.entry_key.EntryKey.{EntryKey}

@@ -11,7 +11,7 @@ use Rattle.rsvp_base.specs.Keys.{Keys, numbers, by, pairs}
 use Rattle.rsvp_base.specs.Orders.{sessions, senders}
 use Rattle.rsvp_base.specs.Table.{Table, get, has, keys}
 use Rattle.rsvp_base.specs.TokenBucket.{TokenBucket}
-use Rattle.rsvp_messages.specs.RsvpObjects.ObjectFields.declared.adspec.Adspec.{Adspec}
+use Rattle.rsvp_messages.specs.RsvpObjects.declared.adspec.Adspec.{Adspec}
 use Rattle.style_rules.specs.Merge.{table_at}
 use Rattle.style_rules.specs.Toward.{or_else}
 use Rattle.router_rules.specs.Facts.{Facts, PathState, SenderKey}

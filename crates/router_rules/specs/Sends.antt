@@ -21,7 +21,7 @@ use Rattle.rsvp_messages.specs.declared.ask.Tear.{Tear}
 use Rattle.rsvp_messages.specs.declared.ask.Tear.TheVariants as tear
 use Rattle.rsvp_messages.specs.declared.message.Message.{Message}
 use Rattle.rsvp_messages.specs.declared.message.Message.TheVariants as message
-use Rattle.rsvp_messages.specs.RsvpObjects.ObjectFields.declared.adspec.Adspec.{Adspec}
+use Rattle.rsvp_messages.specs.RsvpObjects.declared.adspec.Adspec.{Adspec}
 use Rattle.style_rules.specs.FlowOrder.{flow_le}
 use Rattle.style_rules.specs.Lines.{next_hops}
 use Rattle.style_rules.specs.Merge.{PartTable}

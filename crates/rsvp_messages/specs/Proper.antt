@@ -7,7 +7,7 @@ use Rattle.rsvp_base.specs.declared.style.StyleKind.TheVariants as style
 use Rattle.rsvp_base.specs.Orders.{Names}
 use Rattle.rsvp_base.specs.Table.{get, has, size}
 use Rattle.rsvp_base.specs.TokenBucket.{TokenBucket, IsSound}
-use Rattle.rsvp_objects.specs.ObjectFields.AdspecLaws.{IsAdspec}
+use Rattle.rsvp_objects.specs.AdspecLaws.{IsAdspec}
 use Rattle.rsvp_messages.specs.declared.ask.Ask.{Ask}
 use Rattle.rsvp_messages.specs.declared.ask.Ask.TheVariants as ask
 use Rattle.rsvp_messages.specs.declared.ask.Blame.{Blame}

@@ -15,24 +15,24 @@ use Rattle.rsvp_base.specs.declared.session.Sender.{Sender}
 use Rattle.rsvp_base.specs.declared.style.StyleKind.TheVariants.{Wild, Fixed, Shared}
 use Rattle.rsvp_base.proofs.Lists.{with_keys-union}
 use Rattle.rsvp_base.proofs.SetLaws.{same_set, has-union}
-use Rattle.object_fields.specs.Form.{adspec_in}
-use Rattle.object_fields.specs.Spelling.{adspec_bytes}
-use Rattle.object_fields.proofs.Again.{few_words, read_again as adspec_again}
-use Rattle.object_fields.proofs.Bytes.{body_size}
+use Rattle.rsvp_objects.specs.Form.{adspec_in}
+use Rattle.rsvp_objects.specs.AdspecSpelling.{adspec_bytes}
+use Rattle.rsvp_objects.proofs.AdspecAgain.{few_words, read_again as adspec_again}
+use Rattle.rsvp_objects.proofs.Bytes.{body_size}
 use Rattle.rsvp_objects.specs.declared.object.Object.{Object}
 use Rattle.rsvp_objects.specs.declared.object.Object.TheVariants as object
 use Rattle.rsvp_objects.specs.declared.obj_err.ObjErr.{ObjErr}
-use Rattle.object_fields.specs.Fields.{byte_at, half_at, has_flag, flag_if}
+use Rattle.rsvp_objects.specs.Fields.{byte_at, half_at, has_flag, flag_if}
 use Rattle.rsvp_objects.specs.Classes.{adspec, class_with}
 use Rattle.rsvp_objects.specs.Contents.{e_police, in_place, not_guilty, source, sources_in, scope_in, source_bytes, scope_bytes}
 use Rattle.rsvp_objects.specs.FlowWords.{flow_in, bucket_in, flow_bytes}
-use Rattle.object_fields.specs.RateWord.{word_of}
+use Rattle.rsvp_objects.specs.RateWord.{word_of}
 use Rattle.rsvp_objects.specs.Reading.{head_of, advert_in, body_of, contents_of, by_head, with_end, object_at}
 use Rattle.rsvp_objects.specs.Spelling.{spelling}
 use Rattle.rsvp_objects.specs.Proper.{class_of, ctype_with, IsSource, IsFlow, IsProper, most_bytes, IsWholeWords}
 use Rattle.rsvp_objects.proofs.Sources.{fours}
-use Rattle.object_fields.proofs.Numbers.{word_again, half_again}
-use Rattle.object_fields.proofs.WordLaws.{each_rate_has_one_word}
+use Rattle.rsvp_objects.proofs.Numbers.{word_again, half_again}
+use Rattle.rsvp_objects.proofs.WordLaws.{each_rate_has_one_word}
 
 abbrev read : {A : Type 0} → A → Result A ObjErr
 read x = Ok x

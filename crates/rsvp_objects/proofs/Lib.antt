@@ -1,6 +1,18 @@
+pub mod Choices
+pub mod Numbers
+pub mod Small
+pub mod Scaled
+pub mod Normal
+pub mod WordAnswers
+pub mod WordLaws
+pub mod ReadRates
+pub mod Lists
+pub mod Walks
+pub mod AdspecContents
+pub mod Bytes
+pub mod AdspecAgain
+pub mod AdspecReadProper
 pub mod Sources
 pub mod Again
 pub mod Classes
 pub mod ReadProper
-pub use Rattle.object_fields.proofs.Choices
-pub use Rattle.object_fields.proofs as ObjectFields

@@ -13,9 +13,9 @@ use Rattle.rsvp_base.specs.TokenBucket.{TokenBucket}
 use Rattle.rsvp_base.specs.declared.flow.Peak.{Peak}
 use Rattle.rsvp_base.specs.declared.flow.Peak.TheVariants.{Finite, Infinite}
 use Rattle.rsvp_base.specs.declared.session.Sender.{Sender}
-use Rattle.object_fields.specs.declared.adspec.Adspec.{Adspec}
-use Rattle.object_fields.specs.AdspecLaws.{IsAdspec}
-use Rattle.object_fields.proofs.ReadProper.{what_is_read_can_be_written}
+use Rattle.rsvp_objects.specs.declared.adspec.Adspec.{Adspec}
+use Rattle.rsvp_objects.specs.AdspecLaws.{IsAdspec}
+use Rattle.rsvp_objects.proofs.AdspecReadProper.{what_is_read_can_be_written}
 use Rattle.rsvp_objects.specs.declared.read_class.ReadClass.{ReadClass}
 use Rattle.rsvp_objects.specs.declared.read_class.ReadClass.TheVariants as class
 use Rattle.rsvp_objects.specs.declared.head.Head.{Head}
@@ -24,14 +24,14 @@ use Rattle.rsvp_objects.specs.declared.object.Object.TheVariants as object
 use Rattle.rsvp_objects.specs.declared.obj_err.ObjErr.{ObjErr}
 use Rattle.rsvp_objects.specs.Classes.{adspec, is_skipped, class_with, ctype_of, size_of, has_size}
 use Rattle.rsvp_objects.specs.Contents.{sources_in, scope_in}
-use Rattle.object_fields.specs.Fields.{AreBytes, byte_at, half_at, word_at}
-use Rattle.object_fields.specs.RateFields.{peak_at}
-use Rattle.object_fields.proofs.Choices.{chosen}
-use Rattle.object_fields.proofs.ReadRates.{some_said, peak_proper, gave}
-use Rattle.object_fields.proofs.Small.{bytes_behind, bytes_before, byte_small, half_small, word_small}
+use Rattle.rsvp_objects.specs.Fields.{AreBytes, byte_at, half_at, word_at}
+use Rattle.rsvp_objects.specs.RateFields.{peak_at}
+use Rattle.rsvp_objects.proofs.Choices.{chosen}
+use Rattle.rsvp_objects.proofs.ReadRates.{some_said, peak_proper, gave}
+use Rattle.rsvp_objects.proofs.Small.{bytes_behind, bytes_before, byte_small, half_small, word_small}
 use Rattle.rsvp_objects.specs.FlowWords.{flow_in, bucket_in, rate_at, finite, sound_bucket, has_heads}
 use Rattle.rsvp_objects.specs.Proper.{IsSource, IsFlow, IsSkipped, IsProper, WhatIsReadIsProper}
-use Rattle.object_fields.specs.RateLaws.{IsPeak}
+use Rattle.rsvp_objects.specs.RateLaws.{IsPeak}
 use Rattle.rsvp_objects.specs.Reading.{is_length, head_of, contents_of, or_fault, is_other_service, by_class, advert_in, passed_over, body_of, by_head, with_end, contents_at}
 use Rattle.rsvp_objects.proofs.Again.{by_its_head}
 use Rattle.rsvp_objects.proofs.Classes.{read, is_read}

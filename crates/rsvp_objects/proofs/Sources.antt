@@ -8,7 +8,7 @@ use Rattle.rsvp_base.specs.declared.session.Sender.{Sender}
 use Rattle.rsvp_base.specs.Orders.{Names}
 use Rattle.rsvp_base.specs.Table.{keys, size}
 use Rattle.rsvp_base.proofs.Lists.{size_keys}
-use Rattle.object_fields.specs.Fields.{word_at}
+use Rattle.rsvp_objects.specs.Fields.{word_at}
 use Rattle.rsvp_objects.specs.Contents.{source, sources_in, source_bytes}
 use Rattle.rsvp_objects.specs.declared.object.Object.TheVariants as object
 use Rattle.rsvp_objects.specs.Spelling.{spelling}

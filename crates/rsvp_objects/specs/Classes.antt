@@ -1,7 +1,7 @@
 -- The table of objects (RFC 2205, appendix A; RFC 2210, 3): the Class-Num of each class, and of each that is read the C-Type, and
 -- the size of its contents where that is fixed.
 use Rattle.std.specs.Prelude.{ℕ, Bool, true, ◌||◌, ◌==◌, nat_le, List, length, Option, Some, None, if◌then◌else◌}
-use Rattle.object_fields.specs.Spelling.{adspec_class}
+use Rattle.rsvp_objects.specs.AdspecSpelling.{adspec_class}
 use Rattle.rsvp_objects.specs.declared.read_class.ReadClass.{ReadClass}
 use Rattle.rsvp_objects.specs.declared.read_class.ReadClass.TheVariants as class
 

@@ -12,7 +12,7 @@ use Rattle.rsvp_base.specs.declared.style.StyleKind.{StyleKind}
 use Rattle.rsvp_base.specs.declared.style.StyleKind.TheVariants.{Wild, Fixed, Shared}
 use Rattle.rsvp_base.specs.Orders.{Names, names_from}
 use Rattle.rsvp_base.specs.Table.{keys}
-use Rattle.object_fields.specs.Fields.{byte_at, half_at, word_at, addr_at, half, word, has_flag, flag_if}
+use Rattle.rsvp_objects.specs.Fields.{byte_at, half_at, word_at, addr_at, half, word, has_flag, flag_if}
 
 -- ---- SESSION (A.1)
 --

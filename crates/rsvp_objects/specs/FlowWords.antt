@@ -23,9 +23,9 @@ use Rattle.std.specs.Prelude.{ℕ, ◌/◌, Bool, ◌&&◌, ◌||◌, ◌==◌, 
 use Rattle.rsvp_base.specs.TokenBucket.{TokenBucket}
 use Rattle.rsvp_base.specs.declared.flow.Peak.{Peak}
 use Rattle.rsvp_base.specs.declared.flow.Peak.TheVariants.{Finite, Infinite}
-use Rattle.object_fields.specs.Fields.{byte_at, half_at, word_at, half, word}
-use Rattle.object_fields.specs.RateWord.{word_of}
-use Rattle.object_fields.specs.RateFields.{◌>>=◌, peak_at}
+use Rattle.rsvp_objects.specs.Fields.{byte_at, half_at, word_at, half, word}
+use Rattle.rsvp_objects.specs.RateWord.{word_of}
+use Rattle.rsvp_objects.specs.RateFields.{◌>>=◌, peak_at}
 
 -- the service of a FLOWSPEC (controlled load) and of a SENDER_TSPEC (default, general parameters)
 abbrev pub controlled_load : ℕ

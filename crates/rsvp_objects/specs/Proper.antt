@@ -10,13 +10,13 @@ use Rattle.rsvp_base.specs.declared.err_spec.ErrSpec.{ErrSpec}
 use Rattle.rsvp_base.specs.declared.hop.Hop.{Hop}
 use Rattle.rsvp_base.specs.declared.session.Sender.{Sender}
 use Rattle.rsvp_base.specs.declared.session.Session.{Session}
-use Rattle.object_fields.specs.AdspecLaws.{IsAdspec}
+use Rattle.rsvp_objects.specs.AdspecLaws.{IsAdspec}
 use Rattle.rsvp_objects.specs.declared.read_class.ReadClass.TheVariants as class
 use Rattle.rsvp_objects.specs.declared.object.Object.{Object}
 use Rattle.rsvp_objects.specs.declared.object.Object.TheVariants as object
 use Rattle.rsvp_objects.specs.Classes.{class_number, ctype_of, adspec, is_skipped}
-use Rattle.object_fields.specs.Fields.{AreBytes}
-use Rattle.object_fields.specs.RateLaws.{IsPeak}
+use Rattle.rsvp_objects.specs.Fields.{AreBytes}
+use Rattle.rsvp_objects.specs.RateLaws.{IsPeak}
 use Rattle.rsvp_objects.specs.Reading.{body_of, object_at}
 use Rattle.rsvp_objects.specs.Spelling.{spelling}
 

@@ -2,8 +2,8 @@
 use Rattle.std.specs.Prelude.{ℕ, ◌+◌, ◌-◌, ◌%◌, Bool, not, ◌&&◌, ◌==◌, nat_lt, nat_le, List, length, drop, take, Option, Some, None, IsTrue, Result, Ok, Err, if◌then◌else◌}
 use Rattle.rsvp_base.specs.declared.session.Session.{Session}
 use Rattle.rsvp_base.specs.Table.{size}
-use Rattle.object_fields.specs.declared.adspec.Adspec.{Adspec}
-use Rattle.object_fields.specs.Form.{adspec_in}
+use Rattle.rsvp_objects.specs.declared.adspec.Adspec.{Adspec}
+use Rattle.rsvp_objects.specs.Form.{adspec_in}
 use Rattle.rsvp_objects.specs.declared.read_class.ReadClass.{ReadClass}
 use Rattle.rsvp_objects.specs.declared.read_class.ReadClass.TheVariants as class
 use Rattle.rsvp_objects.specs.declared.object.Object.{Object}
@@ -11,7 +11,7 @@ use Rattle.rsvp_objects.specs.declared.object.Object.TheVariants as object
 use Rattle.rsvp_objects.specs.declared.obj_err.ObjErr.{ObjErr}
 use Rattle.rsvp_objects.specs.declared.obj_err.ObjErr.TheVariants as fault
 use Rattle.rsvp_objects.specs.declared.head.Head.{Head}
-use Rattle.object_fields.specs.Fields.{byte_at, half_at}
+use Rattle.rsvp_objects.specs.Fields.{byte_at, half_at}
 use Rattle.rsvp_objects.specs.Classes.{adspec, is_skipped, class_with, ctype_of, size_of, has_size}
 use Rattle.rsvp_objects.specs.Contents.{session_in, police_in, hop_in, period_in, error_in, scope_in, style_in, sender_in, confirm_in}
 use Rattle.rsvp_objects.specs.FlowWords.{controlled_load, general, flow_in}

@@ -1,11 +1,11 @@
 -- How each object is spelt: its head (RFC 2205, 3.1.2), and the contents of its figure.
 use Rattle.std.specs.Prelude.{List, [], ℕ}
-use Rattle.object_fields.specs.Spelling.{object_bytes}
+use Rattle.rsvp_objects.specs.AdspecSpelling.{object_bytes}
 use Rattle.rsvp_objects.specs.declared.read_class.ReadClass.{ReadClass}
 use Rattle.rsvp_objects.specs.declared.read_class.ReadClass.TheVariants as class
 use Rattle.rsvp_objects.specs.declared.object.Object.{Object}
 use Rattle.rsvp_objects.specs.declared.object.Object.TheVariants as object
-use Rattle.object_fields.specs.Fields.{spelt}
+use Rattle.rsvp_objects.specs.Fields.{spelt}
 use Rattle.rsvp_objects.specs.Classes.{class_number, ctype_of}
 use Rattle.rsvp_objects.specs.Contents.{session_bytes, hop_bytes, period_bytes, error_bytes, scope_bytes, style_bytes, sender_bytes, confirm_bytes}
 use Rattle.rsvp_objects.specs.FlowWords.{controlled_load, general, flow_bytes}

@@ -36,7 +36,7 @@ impl Class {
 
     pub const SENDER_TSPEC: Class = Class(12);
 
-    pub const ADSPEC: Class = Class(object_fields::ADSPEC);
+    pub const ADSPEC: Class = Class(crate::ADSPEC);
 
     pub const POLICY_DATA: Class = Class(14);
 

@@ -7,6 +7,7 @@ ghost use Rattle.rsvp_objects.specs.declared.read_class.ReadClass.TheVariants as
 ghost use Rattle.rsvp_objects.specs.declared.object.Object.TheVariants as AnObject;
 ghost use Rattle.rsvp_objects.specs.Reading.{as_object, contents_of, IsSized};
 
+use crate::fields::{addr_at, half_at, word_at};
 use crate::flags::{is_in_place, is_not_guilty, is_police};
 use crate::flow_reading::flow;
 use crate::obj_err::ObjErr;
@@ -14,7 +15,6 @@ use crate::object::Object;
 use crate::places;
 use crate::read_class::ReadClass;
 use crate::values::{service, style as options};
-use object_fields::{addr_at, half_at, word_at};
 use rsvp_base::{Addr, ErrSpec, Flow, Hop, Sender, Senders, Session, StyleKind};
 
 /// The object with these contents, which have the size of their class, or its fault. `at` is its place.

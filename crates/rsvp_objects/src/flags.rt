@@ -1,6 +1,6 @@
 //! Flag bytes, as sets of flags.
 ghost use Rattle.std.specs.Prelude.{◌≡◌, ◌+◌, ⊤, [], ◌∷◌, codes};
-ghost use Rattle.object_fields.specs.Fields.{has_flag, flag_if};
+ghost use Rattle.rsvp_objects.specs.Fields.{has_flag, flag_if};
 ghost use Rattle.rsvp_objects.specs.Contents.{e_police, in_place, not_guilty};
 
 use bitflags::{Flag, Flags, bitflag_items};

@@ -2,8 +2,8 @@
 ghost use Rattle.std.specs.Prelude.{◌≡◌, ◌≤◌, ◌+◌, length};
 ghost use Rattle.rsvp_objects.specs.FlowWords.{rate_at, has_heads, bucket_in, flow_in};
 
+use crate::fields::{half_at, peak_at, word_at};
 use crate::{places, values};
-use object_fields::{half_at, peak_at, word_at};
 use rsvp_base::{Flow, Peak, Rate};
 
 /// The flow that the contents of a FLOWSPEC or SENDER_TSPEC of a service say. `None` where they are not the eight words.

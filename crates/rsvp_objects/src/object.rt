@@ -1,7 +1,7 @@
 //! Objects.
 ghost use Rattle.std.specs.Prelude.{◌≡◌};
 
-use object_fields::Adspec;
+use crate::adspec::Adspec;
 use rsvp_base::{Addr, ErrSpec, Flow, Hop, Sender, Senders, Session, StyleKind};
 
 /// What an object says (RFC 2205, appendix A; RFC 2210, 3).

@@ -6,11 +6,13 @@ ghost use Rattle.rsvp_objects.specs.declared.object.Object.TheVariants as AnObje
 ghost use Rattle.rsvp_objects.specs.Contents.{source_bytes, scope_bytes};
 ghost use Rattle.rsvp_objects.specs.Spelling.{spelt_as, spelling};
 
+use crate::adspec::Adspec;
+use crate::adspec_writing::write_adspec;
+use crate::packet::Packet;
 use crate::read_class::ReadClass;
 use crate::values::service;
 use crate::{places, texts};
 use byteorder::{BigEndian, ByteOrder};
-use object_fields::{Adspec, Packet, write_adspec};
 use rsvp_base::{Addr, ErrSpec, Flow, Full, Hop, Sender, Senders, Session, StyleKind};
 
 // The most bytes that a packet has, and those of a head.

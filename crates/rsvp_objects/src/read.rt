@@ -4,14 +4,16 @@ ghost use Rattle.rsvp_objects.specs.Classes as number;
 ghost use Rattle.rsvp_objects.specs.declared.object.Object.TheVariants as AnObject;
 ghost use Rattle.rsvp_objects.specs.Reading.{as_object, as_session, advert_in, body_of};
 
+use crate::adspec::Adspec;
+use crate::adspec_reading::read_adspec;
 use crate::class::Class;
+use crate::fields::{addr_at, word_at};
 use crate::flow_reading::flow;
 use crate::obj_err::ObjErr;
 use crate::read_class::ReadClass;
 use crate::reading::has_size;
 use crate::values::{ctype as types, service};
 use crate::{contents, flags, places};
-use object_fields::{Adspec, addr_at, read_adspec, word_at};
 use rsvp_base::{Addr, ErrSpec, Flow, Hop, Sender, Senders, Session, StyleKind};
 
 /// What a SESSION says, and whether it has E_Police. Else its fault; `at` is its place.

@@ -3,14 +3,15 @@ ghost use Rattle.std.specs.Prelude.{◌≡◌, ◌≤◌, ◌<◌, ◌+◌, leng
 ghost use Rattle.rsvp_objects.specs.Classes.{has_size};
 ghost use Rattle.rsvp_objects.specs.Reading.{head_of, advert_in, passed_over, body_of, object_at};
 
+use crate::adspec::Adspec;
 use crate::class::Class;
 use crate::contents::contents;
+use crate::fields::half_at;
 use crate::head::Head;
 use crate::obj_err::ObjErr;
 use crate::object::Object;
 use crate::read_class::ReadClass;
 use crate::{places, read};
-use object_fields::{Adspec, half_at};
 
 /// The object at a place, and the place after it. Else the first fault there, in the order of `ObjErr`.
 #[tactic(auto, unfolding(crate::specs::Reading::object_at))]

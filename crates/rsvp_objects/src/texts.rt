@@ -2,16 +2,16 @@
 ghost use Rattle.std.specs.Prelude.{◌≡◌, ◌≤◌, ◌+◌, ◌++◌, ◌∷◌, [], length, drop};
 ghost use Rattle.rsvp_objects.specs.declared.read_class.ReadClass.TheVariants as ReadClass;
 ghost use Rattle.rsvp_objects.specs.Classes.{class_number, ctype_of};
-ghost use Rattle.object_fields.specs.Fields.{half, spelt};
+ghost use Rattle.rsvp_objects.specs.Fields.{half, spelt};
 ghost use Rattle.rsvp_objects.specs.Contents.{session_bytes, hop_bytes, period_bytes, error_bytes, style_number, style_bytes, sender_bytes, confirm_bytes};
 ghost use Rattle.rsvp_objects.specs.FlowWords.{flow_bytes};
 ghost use Rattle.rsvp_objects.specs.Spelling.{spelt_as};
 
 use crate::flags::{error_flags, session_flags};
+use crate::rate_word::word_of_rate;
 use crate::read_class::ReadClass;
 use crate::{places, values};
 use byteorder::{BigEndian, ByteOrder};
-use object_fields::word_of_rate;
 use rsvp_base::{Addr, ErrSpec, Flow, Hop, Peak, Sender, Session, StyleKind};
 
 /// Writes the head of an object of the class, whose text has this many bytes, over the first four.

@@ -3,8 +3,8 @@ ghost use Rattle.std.specs.Prelude.{◌≡◌, ◌≤◌, ◌<◌, ◌+◌, ◌+
 ghost use Rattle.rsvp_objects.specs.Spelling.{spelling};
 
 use crate::object::Object;
+use crate::packet::Packet;
 use crate::put;
-use object_fields::Packet;
 use rsvp_base::Full;
 
 /// Puts an object at the end of a packet. `Full` exactly where it does not fit; nothing changes then.

@@ -10,7 +10,7 @@ use Rattle.rsvp_base.specs.declared.style.StyleKind.{StyleKind}
 use Rattle.rsvp_base.specs.Table.{size}
 use Rattle.rsvp_base.specs.TokenBucket.{IsSound}
 use Rattle.rsvp_messages.specs.Proper.{WhereThere}
-use Rattle.rsvp_messages.specs.RsvpObjects.ObjectFields.AdspecLaws.{IsAdspec}
+use Rattle.rsvp_messages.specs.RsvpObjects.AdspecLaws.{IsAdspec}
 use Rattle.style_rules.specs.declared.target.Target.TheVariants as target
 use Rattle.style_rules.specs.declared.wall.Wall.{Wall}
 use Rattle.style_rules.specs.Parts.{IsOfStyle}

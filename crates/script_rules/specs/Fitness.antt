@@ -5,9 +5,9 @@ use Rattle.std.specs.List.{All, AllByRecursion}
 use Rattle.rsvp_base.specs.declared.flow.Peak.{Peak}
 use Rattle.rsvp_base.specs.declared.flow.Peak.TheVariants.{Finite, Infinite}
 use Rattle.rsvp_messages.specs.Proper.{WhereThere}
-use Rattle.rsvp_messages.specs.RsvpObjects.ObjectFields.AdspecLaws.{IsAdspec}
-use Rattle.rsvp_messages.specs.RsvpObjects.ObjectFields.RateLaws.{IsPeak}
-use Rattle.rsvp_messages.specs.RsvpObjects.ObjectFields.declared.adspec.Adspec.{Adspec}
+use Rattle.rsvp_messages.specs.RsvpObjects.AdspecLaws.{IsAdspec}
+use Rattle.rsvp_messages.specs.RsvpObjects.RateLaws.{IsPeak}
+use Rattle.rsvp_messages.specs.RsvpObjects.declared.adspec.Adspec.{Adspec}
 use Rattle.style_rules.specs.declared.target.Target.{Target}
 use Rattle.style_rules.specs.declared.target.Target.TheVariants as target
 use Rattle.router_rules.specs.Bounds.{IsTarget}

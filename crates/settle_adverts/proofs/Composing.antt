@@ -4,7 +4,7 @@ use Rattle.std.specs.Prelude.{map as each, slice_get, ◌++◌}
 use Rattle.adspec_path.specs.Advertisement.{advertisement, composed}
 use Rattle.adspec_path.specs.Composing.{pass_on, start}
 use Rattle.rsvp_base.specs.declared.iface.Iface.{Iface}
-use Rattle.rsvp_messages.specs.RsvpObjects.ObjectFields.declared.adspec.Adspec.{Adspec}
+use Rattle.rsvp_messages.specs.RsvpObjects.declared.adspec.Adspec.{Adspec}
 use Rattle.router_rules.specs.declared.advert.Advert.TheVariants.{Begins}
 use Rattle.router_rules.specs.Offers.{advert_by, advert_of}
 use Rattle.adspec_path.proofs.Composed.{an_advertisement_is_composed}

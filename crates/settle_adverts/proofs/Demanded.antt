@@ -11,7 +11,7 @@ use Rattle.rsvp_base.specs.TokenBucket.{TokenBucket}
 use Rattle.rsvp_base.proofs.Counts.{in_set_of, set_of_in}
 use Rattle.rsvp_base.proofs.Members.{any_in, in_any, in_each, in_filter, to_each, to_filter}
 use Rattle.rsvp_base.proofs.Tables.{get-changed, got_changed, same_table, then_do}
-use Rattle.rsvp_messages.specs.RsvpObjects.ObjectFields.declared.adspec.Adspec.{Adspec}
+use Rattle.rsvp_messages.specs.RsvpObjects.declared.adspec.Adspec.{Adspec}
 use Rattle.router_rules.specs.Adverts.{advert_row, adverts_at}
 use Rattle.router_rules.specs.Facts.{Facts, PathState, SenderKey, sender_keys}
 use Rattle.tree_model.specs.declared.hops.End.{End}

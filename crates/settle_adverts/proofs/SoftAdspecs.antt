@@ -4,7 +4,7 @@ use Rattle.std.specs.Prelude.{◌==◌}
 use Rattle.rsvp_base.specs.TokenBucket.{TokenBucket}
 use Rattle.rsvp_messages.specs.declared.message.Message.TheVariants as message
 use Rattle.rsvp_messages.specs.declared.message.PathMsg.{PathMsg}
-use Rattle.rsvp_messages.specs.RsvpObjects.ObjectFields.declared.adspec.Adspec.{Adspec}
+use Rattle.rsvp_messages.specs.RsvpObjects.declared.adspec.Adspec.{Adspec}
 use Rattle.calm_rounds.specs.SoftStates.{KeepLaws, SoftState}
 use Rattle.router_rules.specs.Facts.{PathState, SenderKey}
 use Rattle.router_rules.specs.Inputs.{Spelt}

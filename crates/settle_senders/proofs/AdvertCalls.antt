@@ -14,7 +14,7 @@ use Rattle.rsvp_base.specs.Table.{Table, get, has, keys}
 use Rattle.rsvp_base.specs.TokenBucket.{IsSound, TokenBucket}
 use Rattle.rsvp_base.proofs.Members.{in_append, in_each, in_left}
 use Rattle.rsvp_base.proofs.SetLaws.{and_made}
-use Rattle.rsvp_messages.specs.RsvpObjects.ObjectFields.declared.adspec.Adspec.{Adspec}
+use Rattle.rsvp_messages.specs.RsvpObjects.declared.adspec.Adspec.{Adspec}
 use Rattle.rsvp_messages.specs.declared.message.Message.TheVariants as message
 use Rattle.style_rules.specs.PartLaws.{part_at_most_itself}
 use Rattle.laws_bounds.specs.FactLaws.{is_way}

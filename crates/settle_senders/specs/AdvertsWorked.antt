@@ -1,7 +1,7 @@
 -- What it comes to in small networks that a host advertises.
 use Rattle.std.specs.Prelude.{◌≡◌, ℕ, [], ◌∷◌, true, codes, None, Some}
 use Rattle.rsvp_base.specs.TokenBucket.{IsSound}
-use Rattle.rsvp_messages.specs.RsvpObjects.ObjectFields.declared.adspec.Adspec.{Adspec}
+use Rattle.rsvp_messages.specs.RsvpObjects.declared.adspec.Adspec.{Adspec}
 use Rattle.rsvp_messages.specs.declared.message.Message.TheVariants as message
 use Rattle.tree_model.specs.Ranks.{longest}
 use Rattle.network_model.specs.Bounds.{AreHosts}

@@ -2,7 +2,7 @@
 -- has controlled load. They begin with the space before the first.
 use Rattle.std.specs.Prelude.{ℕ, Bool, true, false, List, [], ◌++◌, Option, Some, None, codes}
 use Rattle.std.specs.Fmt.{decimal}
-use Rattle.object_fields.specs.declared.adspec.Adspec.{Adspec}
+use Rattle.rsvp_objects.specs.declared.adspec.Adspec.{Adspec}
 use Rattle.value_texts.specs.Texts.{peak_text}
 
 abbrev pub load_text : Option Bool → List ℕ

@@ -5,8 +5,8 @@ ghost use Rattle.value_texts.specs.Texts.{peak_text};
 ghost use Rattle.value_texts.specs.AdspecText.{adspec_words, broken_text, load_text, packet_text, rate_text};
 
 use crate::texts::{put, put_number};
-use object_fields::Adspec;
 use rsvp_base::{NoMemory, Peak};
+use rsvp_objects::Adspec;
 
 /// Appends the words of an ADSPEC. They are as ` hops 1 rate 10000 latency 100 mtu 1500 cl ok`: the bandwidth in bytes
 /// per second, the latency in microseconds, the MTU in bytes. `NoMemory`: there was no memory for the text.

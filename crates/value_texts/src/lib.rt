@@ -2,7 +2,7 @@
 //! column and quoted, with invisible bytes named and a long word cut.
 //!
 //! Each call that puts a text appends it to what is there, and the text is exactly its definition in `specs/`. No memory is taken but
-//! for the text that grows. It stands on `object_fields`, `rsvp_base` and `script_words`.
+//! for the text that grows. It stands on `rsvp_objects`, `rsvp_base` and `script_words`.
 #![tactic(auto)]
 
 mod adspec;

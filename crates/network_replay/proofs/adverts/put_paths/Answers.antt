@@ -2,7 +2,7 @@ use Rattle.std.proofs.Common.{◌≤◌, ◌+◌, List, ℕ, subst, sym, arith, 
 use Rattle.std.specs.Prelude.{Result, Err, Ok}
 use Rattle.std.proofs.lemmas.Result.{err_from_is_err_and}
 use Rattle.rsvp_base.specs.declared.room.NoMemory.{NoMemory}
-use Rattle.rsvp_messages.specs.RsvpObjects.ObjectFields.declared.adspec.Adspec.{Adspec}
+use Rattle.rsvp_messages.specs.RsvpObjects.declared.adspec.Adspec.{Adspec}
 use Rattle.router_rules.specs.Adverts.{adverts_of}
 use Rattle.router_rules.specs.Facts.{SenderKey}
 use Rattle.network_flight.specs.Texts.{advert_text}

@@ -4,7 +4,7 @@ use Rattle.rsvp_base.specs.Sets.{with_key, with_keys, listed}
 use Rattle.rsvp_base.specs.Orders.{senders}
 use Rattle.rsvp_base.specs.declared.addr.Addr.{Addr}
 use Rattle.rsvp_base.proofs.SetLaws.{size-with_rows}
-use Rattle.object_fields.specs.Fields.{word_at}
+use Rattle.rsvp_objects.specs.Fields.{word_at}
 use Rattle.rsvp_objects.specs.Contents.{source, sources_in, scope_in}
 use Rattle.rsvp_objects.proofs.Sources.{sources_cons}
 use Rattle.rsvp_objects.proofs.contents.scope.Goals as goal

@@ -2,7 +2,7 @@ use Rattle.std.proofs.Common.{◌≡◌, ◌<◌, ◌≤◌, ◌+◌, ◌*◌, �
 use Rattle.std.specs.List.{flat_map}
 use Rattle.rsvp_base.specs.Table.{keys}
 use Rattle.rsvp_base.specs.declared.session.Sender.{Sender}
-use Rattle.object_fields.specs.Fields.{half}
+use Rattle.rsvp_objects.specs.Fields.{half}
 use Rattle.rsvp_objects.specs.Contents.{source_bytes, scope_bytes}
 use Rattle.rsvp_objects.proofs.Sources.{fours, text_more, text_whole}
 use Rattle.rsvp_objects.proofs.put.put_scope.Goals as goal

@@ -1,7 +1,7 @@
 use Rattle.std.proofs.Common.{◌≡◌, ◌+◌, ◌*◌, ◌++◌, ◌∷◌, [], take, length}
 use Rattle.std.specs.List.{flat_map}
 use Rattle.rsvp_base.specs.Table.{keys}
-use Rattle.object_fields.specs.Fields.{half}
+use Rattle.rsvp_objects.specs.Fields.{half}
 use Rattle.rsvp_objects.specs.Contents.{source_bytes}
 use Rattle.rsvp_objects.proofs.put.put_scope.Given as goal
 

@@ -1,6 +1,6 @@
 use Rattle.std.proofs.Common.{List, ap, sym, subst, ◌≤◌, ◌∙◌, length}
 use Rattle.std.specs.Prelude.{slice_get}
-use Rattle.object_fields.specs.declared.adspec.Adspec.{Adspec}
+use Rattle.rsvp_objects.specs.declared.adspec.Adspec.{Adspec}
 use Rattle.router_rules.specs.Adverts.{adverts_of}
 use Rattle.router_rules.specs.Facts.{SenderKey}
 use Rattle.router_state.specs.State.{State, facts_at}

@@ -1,5 +1,0 @@
-use Rattle.object_fields.proofs.WordLaws.{rates_are_the_numbers_with_a_word}
-use Rattle.object_fields.proofs.laws.rates_are_the_numbers_with_a_word.Goals as goal
-
-pub returns : goal.returns
-returns c = rates_are_the_numbers_with_a_word

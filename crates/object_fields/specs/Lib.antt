@@ -1,9 +1,0 @@
-pub mod Fields
-pub mod RateWord
-pub mod RateFault
-pub mod RateFields
-pub mod RateLaws
-pub mod Fragment
-pub mod Form
-pub mod Spelling
-pub mod AdspecLaws
