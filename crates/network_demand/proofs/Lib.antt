@@ -11,3 +11,14 @@ pub mod LimitLaws
 pub mod FitLaws
 pub mod Carrying
 pub mod StyleLists
+pub mod CountSums
+pub mod Bounds
+pub mod Senders
+pub mod Lanes
+pub mod Counted
+pub mod Ranges
+pub mod CountedEnds
+pub mod Alone
+pub mod Fit
+pub mod Clashes
+pub mod Bits

@@ -3,3 +3,10 @@ pub mod Asked
 pub mod Books
 pub mod Demands
 pub mod Fits
+pub mod Overhead
+pub mod Counts
+pub mod Misfits
+pub mod Askers
+pub mod Strays
+pub mod Late
+pub mod Findings

@@ -1,7 +1,7 @@
 -- How the findings of a script end: at a bad line, and over known input.
 use Rattle.std.proofs.Common.{◌≡◌, ◌∙◌, ℕ, Bool, List, ◌++◌, Option, None, Some, append-nil, ap, subst, sym, refl}
 use Rattle.std.specs.Io.KnownBytes.{IsAtEnd}
-use Rattle.network_findings.specs.declared.late.Begun.{Begun}
+use Rattle.network_demand.specs.declared.late.Begun.{Begun}
 use Rattle.script_run.specs.Lines.{all_bytes}
 use Rattle.script_grammar.proofs.Scripts.{script_or_bad}
 use Rattle.script_grammar.specs.Draft.{Draft, nothing, plan_of, routing}

@@ -1,7 +1,7 @@
 -- Who asks behind one event more.
 use Rattle.std.specs.Prelude.{◌≡◌, List, [], ◌∷◌, ◌++◌, Option, None, Some, refl}
 use Rattle.std.proofs.Common.{ap, ◌∙◌}
-use Rattle.network_findings.specs.declared.late.Begun.{Begun}
+use Rattle.network_demand.specs.declared.late.Begun.{Begun}
 use Rattle.network_model.specs.Events.{Event as Happening}
 use Rattle.network_model.specs.Happenings.{event_with}
 use Rattle.network_model.specs.RouterRules.Inputs.{Arrival}

@@ -3,14 +3,14 @@ use Rattle.std.specs.Prelude.{◌≡◌, ◌↔◌, ℕ, ◌==◌, Bool, true, f
 use Rattle.std.specs.Fmt.{decimal}
 use Rattle.std.specs.List.{flat_map}
 use Rattle.std.proofs.Common.{sym, ap, subst, ◌∙◌, inl, inr, append_assoc, arith}
-use Rattle.network_findings.specs.Misfits.{AreNone}
-use Rattle.network_findings.specs.Strays.{why_stray}
-use Rattle.network_findings.specs.declared.askers.Asker.{Asker}
-use Rattle.network_findings.specs.declared.findings.Findings.{Findings}
-use Rattle.network_findings.specs.declared.late.Begun.{Begun}
-use Rattle.network_findings.specs.declared.stray.Why.{Why}
+use Rattle.network_demand.specs.Misfits.{AreNone}
+use Rattle.network_demand.specs.Strays.{why_stray}
+use Rattle.network_demand.specs.declared.askers.Asker.{Asker}
+use Rattle.network_demand.specs.declared.findings.Findings.{Findings}
+use Rattle.network_demand.specs.declared.late.Begun.{Begun}
+use Rattle.network_demand.specs.declared.stray.Why.{Why}
 use Rattle.network_model.specs.DemandTexts.{IsDemandText, demand_text, last_line}
-use Rattle.network_findings.specs.Overhead.{overhead}
+use Rattle.network_demand.specs.Overhead.{overhead}
 use Rattle.rsvp_base.specs.declared.session.Session.{Session}
 use Rattle.script_grammar.proofs.Scripts.{leads_one}
 use Rattle.script_grammar.specs.Draft.{Draft, nothing, routing}

@@ -1,7 +1,7 @@
 -- Who asks for sessions behind the events of a script, in the order in which they began.
 use Rattle.std.specs.Prelude.{ℕ, List, [], ◌∷◌, Option, None, Some}
-use Rattle.network_findings.specs.Late.{begun_with, begun_without}
-use Rattle.network_findings.specs.declared.late.Begun.{Begun}
+use Rattle.network_demand.specs.Late.{begun_with, begun_without}
+use Rattle.network_demand.specs.declared.late.Begun.{Begun}
 use Rattle.network_model.specs.Events.{Event as Happening, AtNode}
 use Rattle.network_model.specs.Happenings.{call_of}
 use Rattle.network_model.specs.RouterRules.Inputs.{Local, SendAs, DropAs, AdvertAs, WantAs, QuitAll}

@@ -1,10 +1,10 @@
 -- The findings of a script: what was taken of the source, and what was written.
 use Rattle.std.specs.Prelude.{◌≡◌, ◌≢◌, ◌↔◌, ◌⊎◌, ◌<◌, ◌++◌, ℕ, List, [], Option, Bool, IsTrue}
-use Rattle.network_findings.specs.Findings.{AreFindings}
-use Rattle.network_findings.specs.Misfits.{AreNone}
-use Rattle.network_findings.specs.declared.findings.Findings.{Findings}
-use Rattle.network_findings.specs.declared.late.Begun.{Begun}
-use Rattle.network_findings.specs.Overhead.{overhead}
+use Rattle.network_demand.specs.Findings.{AreFindings}
+use Rattle.network_demand.specs.Misfits.{AreNone}
+use Rattle.network_demand.specs.declared.findings.Findings.{Findings}
+use Rattle.network_demand.specs.declared.late.Begun.{Begun}
+use Rattle.network_demand.specs.Overhead.{overhead}
 use Rattle.script_demand.specs.Answering.{IsAnswering, IsAnsweringOf}
 use Rattle.script_grammar.specs.Draft.{Draft, nothing, routing}
 use Rattle.script_grammar.specs.Grammar.{IsBadLine, Leads}

@@ -3,13 +3,13 @@ use Rattle.std.specs.Prelude.{ℕ, ◌+◌, Bool, true, false, ◌&&◌, nat_le,
 use Rattle.std.specs.Fmt.{decimal}
 use Rattle.std.specs.List.{flat_map, list_any}
 use Rattle.std.specs.Ordering.{eq_by_cmp}
-use Rattle.network_findings.specs.Misfits.{largest_of}
-use Rattle.network_findings.specs.Strays.{why_stray}
-use Rattle.network_findings.specs.declared.askers.Asker.{Asker}
-use Rattle.network_findings.specs.declared.findings.Findings.{Findings}
-use Rattle.network_findings.specs.declared.late.Starved.{Starved}
-use Rattle.network_findings.specs.declared.stray.Why.{Why}
-use Rattle.network_findings.specs.declared.stray.Why.TheVariants.{NobodySends, NoSuchSender, NoTree}
+use Rattle.network_demand.specs.Misfits.{largest_of}
+use Rattle.network_demand.specs.Strays.{why_stray}
+use Rattle.network_demand.specs.declared.askers.Asker.{Asker}
+use Rattle.network_demand.specs.declared.findings.Findings.{Findings}
+use Rattle.network_demand.specs.declared.late.Starved.{Starved}
+use Rattle.network_demand.specs.declared.stray.Why.{Why}
+use Rattle.network_demand.specs.declared.stray.Why.TheVariants.{NobodySends, NoSuchSender, NoTree}
 use Rattle.network_demand.specs.Books.{book_at}
 use Rattle.rsvp_base.specs.Orders.{sessions, Names}
 use Rattle.rsvp_base.specs.Table.{keys}

@@ -6,7 +6,7 @@ ghost use Rattle.rsvp_base.specs.Orders.{sessions};
 ghost use Rattle.script_fit.specs.Texts.{end_starves, late_head, late_words, name_at, starved_in, starved_text};
 
 use crate::want_lines::{put_name_at, put_want_line};
-use network_findings::{Begun, Starved};
+use network_demand::{Begun, Starved};
 use rsvp_base::{EndName, NoMemory, Session};
 use value_texts::{put, put_session, put_style};
 

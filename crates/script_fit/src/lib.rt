@@ -1,10 +1,10 @@
 //! What in a script will not do what its writer meant: what does not fit in the demands behind its last line, what starves since
 //! another style came late, and who meets nobody; and where all fits, how much is in flight once it has settled.
 //!
-//! `write_findings` reads a whole script, checks its lines and writes what `network_findings` finds; its clause says by how that ended
+//! `write_findings` reads a whole script, checks its lines and writes what `network_demand` finds; its clause says by how that ended
 //! what was taken and written. It says a misfit if and only if the demand of the same script (`script_demand`) ends in `fits no`, and
-//! else the refresh overhead of the network (`network_findings`).
-//! What checks the lines is abstract (`Asks`). It stands on `network_findings`, `script_demand` and `script_run`.
+//! else the refresh overhead of the network (`network_demand`).
+//! What checks the lines is abstract (`Asks`). It stands on `network_demand`, `script_demand` and `script_run`.
 #![tactic(auto)]
 
 mod late_lines;

@@ -2,7 +2,7 @@
 ghost use Rattle.std.specs.Prelude.{◌≡◌, ◌++◌, ◌==◌, [], OnOk, slice_get, if◌then◌else◌};
 ghost use Rattle.std.specs.Fmt.{decimal};
 ghost use Rattle.std.specs.List.{flat_map, list_any};
-ghost use Rattle.network_findings.specs.Misfits.{largest_of};
+ghost use Rattle.network_demand.specs.Misfits.{largest_of};
 ghost use Rattle.network_demand.specs.Books.{book_at};
 ghost use Rattle.style_rules.specs.Lines.{held};
 ghost use Rattle.script_fit.specs.Texts.{asker_line, capacity_of, clash_head, end_words, is_asker, is_of_session, large_head, large_words, mtu_of, name_at, over_head, over_words};
@@ -12,8 +12,7 @@ ghost use Rattle.script_fit.specs.Texts.{clash_text, large_text, misfits_text, o
 use crate::late_lines::put_starved;
 use crate::want_lines::{put_name_at, put_want_line};
 use itoa::Buffer;
-use network_demand::EndBook;
-use network_findings::{Asker, Findings, largest, sum_of_rates};
+use network_demand::{Asker, EndBook, Findings, largest, sum_of_rates};
 use rsvp_base::{EndName, NoMemory, Session};
 use tree_routing::End;
 use value_texts::{put, put_number, put_session};

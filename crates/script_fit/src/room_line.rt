@@ -3,12 +3,11 @@ ghost use Rattle.std.specs.Prelude.{◌≡◌, ◌++◌, ◌&&◌, nat_lt, IfOk,
 ghost use Rattle.std.specs.Fmt.{decimal};
 ghost use Rattle.network_demand.specs.Asked.{locals_of};
 ghost use Rattle.network_demand.specs.Demands.{AreLocals};
-ghost use Rattle.network_findings.specs.Overhead.{overhead};
+ghost use Rattle.network_demand.specs.Overhead.{overhead};
 ghost use Rattle.script_fit.specs.Texts.{crowds_text, room_line, room_text};
 
 use itoa::Buffer;
-use network_demand::Locals;
-use network_findings::overhead;
+use network_demand::{Locals, overhead};
 use rsvp_base::NoMemory;
 use std::alloc::Global;
 use tree_routing::Routing;

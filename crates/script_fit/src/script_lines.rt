@@ -13,7 +13,7 @@ ghost use Rattle.script_fit.specs.Begun.{after_call, after_given, after_one, beg
 ghost use Rattle.script_fit.specs.Nodes.{node_of_line, node_said};
 
 use byte_streams::MOST_LINE;
-use network_findings::{Begun, begin, quit};
+use network_demand::{Begun, begin, quit};
 use network_model::{Event, LocalCall};
 use rsvp_base::{EndName, NoMemory};
 use script_demand::end_bad;

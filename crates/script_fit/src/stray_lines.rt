@@ -1,13 +1,12 @@
 //! Lines of who meets nobody.
 ghost use Rattle.std.specs.Prelude.{◌≡◌, ◌++◌, OnOk};
 ghost use Rattle.std.specs.List.{flat_map};
-ghost use Rattle.network_findings.specs.Strays.{why_stray};
+ghost use Rattle.network_demand.specs.Strays.{why_stray};
 ghost use Rattle.network_demand.specs.Asked.{locals_of};
 ghost use Rattle.script_fit.specs.Texts.{idle_line, idle_text, idle_words, name_at, sends_words, stray_line, stray_text, strays_text, why_text};
 
 use crate::want_lines::{put_name_at, put_want};
-use network_demand::Locals;
-use network_findings::{Asker, Findings, Why, why_stray};
+use network_demand::{Asker, Findings, Locals, Why, why_stray};
 use rsvp_base::{EndName, NoMemory};
 use tree_model::{LocalSender, LocalWant};
 use value_texts::{put, put_sender, put_session};

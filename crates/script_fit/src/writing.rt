@@ -19,7 +19,7 @@ use crate::script_lines::read_lines;
 use crate::whole_text::{Saying, findings_text};
 use byte_streams::{ReadErr, Sink, Source, read_all, write_all};
 use line_advice::make_room;
-use network_findings::Begun;
+use network_demand::Begun;
 use rsvp_base::{EndName, NoMemory};
 use script_demand::Asks;
 use script_run::Ending;

@@ -15,7 +15,7 @@ use Rattle.tree_model.specs.Trees.{goes_into, tree}
 use Rattle.tree_model.specs.Wants.{Locals}
 use Rattle.tree_model.specs.declared.locals.LocalSender.{LocalSender}
 use Rattle.network_model.specs.Locals.{locals_of}
-use Rattle.network_findings.specs.Overhead.{asked_lanes, lane_back, lanes_of_sender, node_overhead, overhead, path_overhead}
+use Rattle.network_demand.specs.Overhead.{asked_lanes, lane_back, lanes_of_sender, node_overhead, overhead, path_overhead}
 use Rattle.script_grammar.specs.Draft.{routing}
 use Rattle.script_theorem.specs.Standing.{AskTheSame, world_behind}
 use Rattle.script_theorem.proofs.Same.{one_set, same_want}

@@ -12,7 +12,7 @@ use Rattle.network_model.specs.Locals.{locals_of}
 use Rattle.network_model.specs.Runs.{Plan, first_world}
 use Rattle.network_model.specs.Steps.{Step, machine}
 use Rattle.network_model.specs.Worlds.{World}
-use Rattle.network_findings.specs.Overhead.{overhead}
+use Rattle.network_demand.specs.Overhead.{overhead}
 use Rattle.laws_network.specs.Runs.{AreFitSenders, IsFitRun}
 use Rattle.laws_network.proofs.Hosts.{each_world_of_a_run_keeps_the_locals}
 use Rattle.laws_scripts.proofs.EventLines.{each_script_is_a_fit_run}

@@ -25,7 +25,7 @@ use Rattle.laws_network.specs.Example.{pair_net}
 use Rattle.laws_network.specs.Rounds.{rounds_of}
 use Rattle.laws_network.proofs.Calming.{calm_rounds, rounds_is_calm}
 use Rattle.laws_network.proofs.Example.{valid}
-use Rattle.network_findings.specs.Overhead.{overhead}
+use Rattle.network_demand.specs.Overhead.{overhead}
 use Rattle.script_words.specs.declared.raw.DottedQuad.{DottedQuad}
 use Rattle.script_words.specs.declared.raw.FlowWord.{FlowWord}
 use Rattle.script_words.specs.declared.raw.SenderWord.{SenderWord}

@@ -8,7 +8,7 @@ use Rattle.network_model.specs.Locals.{locals_of}
 use Rattle.network_model.specs.Runs.{Plan, first_world, is_crowded_run, steps_of_run}
 use Rattle.network_model.specs.Steps.{machine}
 use Rattle.network_model.specs.Worlds.{World}
-use Rattle.network_findings.specs.Overhead.{overhead}
+use Rattle.network_demand.specs.Overhead.{overhead}
 use Rattle.script_fit.specs.Findings.{IsFindingsOf}
 use Rattle.script_fit.specs.Laws.{SaysAMisfit}
 use Rattle.script_fit.specs.Texts.{room_line}

@@ -49,7 +49,7 @@ use Rattle.network_model.specs.Worlds.{config_of}
 use Rattle.settle_paths.specs.PreviousHops.{IsPrevious}
 use Rattle.settle_paths.proofs.PreviousHops.{ends_there, same_by_addr}
 use Rattle.settle_paths.proofs.Standing.{from_there, goes_out_told, place_in, some_at}
-use Rattle.network_findings.specs.Overhead.{asked_lanes, is_wanted, lane_back, lanes_back, lanes_of_sender, leaves_by, node_overhead, path_overhead}
+use Rattle.network_demand.specs.Overhead.{asked_lanes, is_wanted, lane_back, lanes_back, lanes_of_sender, leaves_by, node_overhead, path_overhead}
 use Rattle.settle_refreshes.proofs.Counting.{length_filter, length_keys, length_ones, length_picked, one_passes, sum_at_most, sum_each, sum_flat, sum_keys}
 use Rattle.settle_refreshes.proofs.QuietSends.{IsUnchanged, after, path_iface, path_of, path_refreshes, resv_of, resv_refreshed, resv_refreshes, resv_sent, sends_are}
 

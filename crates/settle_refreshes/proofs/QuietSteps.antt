@@ -64,7 +64,7 @@ use Rattle.settle_paths.specs.PreviousHops.{IsPrevious, Reaches}
 use Rattle.settle_paths.proofs.PreviousHops.{ahead, previous_hops_are_all_hops}
 use Rattle.settle_resvs.specs.GoalByIface.{goal_at}
 use Rattle.settle_resvs.proofs.Accepting.{can_be_taken}
-use Rattle.network_findings.specs.Overhead.{node_overhead, overhead}
+use Rattle.network_demand.specs.Overhead.{node_overhead, overhead}
 use Rattle.settle_refreshes.specs.Refreshes.{HasOnlyRefreshes, IsRefresh}
 use Rattle.settle_refreshes.proofs.Resting.{IsAtRest, ready, some_session}
 use Rattle.settle_refreshes.proofs.Resting as resting

@@ -18,7 +18,7 @@ use Rattle.laws_network.proofs.Known.{known_hold}
 use Rattle.laws_network.proofs.Hosts.{each_world_of_a_run_keeps_the_locals}
 use Rattle.settle_network.proofs.RunsSettle.{visited_at}
 use Rattle.settle_network.proofs.Settled.{run_all, run_then}
-use Rattle.network_findings.specs.Overhead.{overhead}
+use Rattle.network_demand.specs.Overhead.{overhead}
 use Rattle.settle_refreshes.specs.Refreshes.{HasOnlyRefreshes}
 use Rattle.settle_refreshes.specs.Roomy.{with_rounds}
 use Rattle.settle_refreshes.proofs.Rounds.{never_crowded, rounds_are_roomy}

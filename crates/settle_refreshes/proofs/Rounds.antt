@@ -24,7 +24,7 @@ use Rattle.laws_network.proofs.Keeping.{calm_rounds_keep_bounds}
 use Rattle.settle_adverts.specs.Adverts.{AreAdvertsExact}
 use Rattle.settle_adverts.proofs.Settling.{adverts_are_exact}
 use Rattle.settle_network.proofs.Settled.{run_then}
-use Rattle.network_findings.specs.Overhead.{overhead}
+use Rattle.network_demand.specs.Overhead.{overhead}
 use Rattle.settle_refreshes.specs.Refreshes.{HasOnlyRefreshes}
 use Rattle.settle_refreshes.proofs.Resting.{IsAtRest, at_rest}
 use Rattle.settle_refreshes.proofs.QuietSteps.{IsToldAtRest, delivery_sends_nothing, few_refreshes, refreshes_sent}

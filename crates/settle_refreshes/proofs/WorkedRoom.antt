@@ -21,7 +21,7 @@ use Rattle.laws_network.specs.Runs.{AreFitSenders, IsFitRun}
 use Rattle.laws_network.proofs.Calming.{calm_rounds, rounds_is_calm}
 use Rattle.settle_network.specs.RunExample.{begun}
 use Rattle.settle_network.proofs.RunExample.{a_run_meets_the_premises}
-use Rattle.network_findings.specs.Overhead.{overhead}
+use Rattle.network_demand.specs.Overhead.{overhead}
 use Rattle.settle_refreshes.specs.WorkedRoom.{APairIsRoomy, ARefusalComesBack, ConfirmationsMultiply, OverheadsAreSo, WhatIsLeftOverIsRefreshed, ended, greedy_plan, plan, refused, two_ask}
 use Rattle.settle_refreshes.proofs.RoomyRuns.{append_none, stays}
 

@@ -20,7 +20,7 @@ use Rattle.laws_network.specs.Beginning.{left_plan}
 use Rattle.laws_network.specs.Example.{pair_net}
 use Rattle.laws_network.specs.Runs.{AreFitSenders, IsFitRun}
 use Rattle.settle_paths.specs.Example.{stale_plan}
-use Rattle.network_findings.specs.Overhead.{overhead}
+use Rattle.network_demand.specs.Overhead.{overhead}
 use Rattle.settle_refreshes.specs.Refreshes.{HasOnlyRefreshes}
 
 -- ---- a sender and three other ends on one link, two of them in its tree, and a receiver at each of these

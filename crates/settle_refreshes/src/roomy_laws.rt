@@ -12,7 +12,7 @@ ghost use Rattle.network_model.specs.Runs.{Plan, first_world, is_crowded_run, st
 ghost use Rattle.network_model.specs.Steps.{Step, machine};
 ghost use Rattle.network_model.specs.Worlds.{World};
 ghost use Rattle.laws_network.specs.Runs.{AreFitSenders, IsFitRun};
-ghost use Rattle.network_findings.specs.Overhead.{overhead};
+ghost use Rattle.network_demand.specs.Overhead.{overhead};
 ghost use Rattle.settle_refreshes.specs.Roomy.{with_rounds};
 ghost use Rattle.settle_refreshes.specs.Refreshes.{HasOnlyRefreshes};
 

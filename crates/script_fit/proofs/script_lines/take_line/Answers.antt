@@ -1,5 +1,5 @@
 use Rattle.std.proofs.Common.{◌≡◌, ◌∙◌, List, ap, sym}
-use Rattle.network_findings.specs.declared.late.Begun.{Begun}
+use Rattle.network_demand.specs.declared.late.Begun.{Begun}
 use Rattle.script_grammar.specs.Grammar.{too_long}
 use Rattle.script_demand.proofs.Feeding.{fed_refused, fed_same}
 use Rattle.script_fit.specs.Begun.{after_given}

@@ -1,7 +1,7 @@
 use Rattle.std.proofs.Common.{◌≡◌, ◌++◌, ◌∙◌, [], true, List, ℕ, ap, subst}
 use Rattle.std.specs.Prelude.{◌↔◌, ◌≢◌}
 use Rattle.network_demand.specs.Asked.{locals_of}
-use Rattle.network_findings.specs.Overhead.{overhead}
+use Rattle.network_demand.specs.Overhead.{overhead}
 use Rattle.tree_model.specs.Goals.{DemandsFit}
 use Rattle.script_fit.specs.Texts.{findings_text, room_text}
 use Rattle.script_fit.proofs.Noted.{noted}

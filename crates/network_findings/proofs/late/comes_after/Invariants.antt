@@ -1,7 +1,0 @@
-use Rattle.std.proofs.Common.{◌≡◌, drop}
-use Rattle.network_findings.specs.Late.{comes_after}
-use Rattle.network_findings.proofs.late.comes_after.Given as goal
-
--- it comes after among the rest, if among all
-abbrev pub invariant-loop-one : goal.invariant-loop-one
-invariant-loop-one l = comes_after (drop l.one-index l.begun) l.late l.node ≡ comes_after l.begun l.late l.node

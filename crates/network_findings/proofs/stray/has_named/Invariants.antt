@@ -1,8 +1,0 @@
-use Rattle.std.proofs.Common.{◌≡◌, drop}
-use Rattle.std.specs.List.{list_any}
-use Rattle.network_findings.specs.Strays.{is_for}
-use Rattle.network_findings.proofs.stray.has_named.Given as goal
-
--- one of the rest, if one of all
-abbrev pub invariant-loop-sender : goal.invariant-loop-sender
-invariant-loop-sender l = list_any (is_for l.want) (drop l.sender-index l.senders) ≡ list_any (is_for l.want) l.senders
