@@ -2,13 +2,13 @@
 ghost use Rattle.std.specs.Prelude.{◌≡◌, ◌≢◌};
 ghost use Rattle.byte_streams.specs.Faults.{Rose};
 ghost use Rattle.command_run.specs.Statuses.{status_of};
-ghost use Rattle.script_fit.specs.Findings.{IsFinding};
+ghost use Rattle.script_demand.specs.Findings.{IsFinding};
 ghost use Rattle.script_run.specs.declared.ending.Ending.{Ending as AnEnding};
 
 use byte_streams::{Sink, Source};
 use command_run::{Status, status_of};
 use script_checker::Checker;
-use script_fit::write_findings;
+use script_demand::write_findings;
 use std::alloc::Global;
 
 /// How a check ended.

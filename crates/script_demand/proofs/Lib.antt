@@ -3,3 +3,10 @@ pub mod Answering
 pub mod Feeding
 pub mod Coming
 pub mod ToldEnds
+pub mod NodeNames
+pub mod Orders
+pub mod Beginnings
+pub mod Sayings
+pub mod ComingNoted
+pub mod Chains
+pub mod Noted

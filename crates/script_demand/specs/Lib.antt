@@ -3,3 +3,8 @@ pub mod Answering
 pub mod Demanding
 pub mod Feeding
 pub mod Telling
+pub mod Nodes
+pub mod Begun
+pub mod Texts
+pub mod Findings
+pub mod Laws

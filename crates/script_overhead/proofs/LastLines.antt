@@ -6,7 +6,7 @@ use Rattle.std.specs.Str.Parse.{AllDigits}
 use Rattle.std.proofs.lemmas.Bool.{le-ltb}
 use Rattle.std.proofs.lemmas.Fmt.{decimal_injective, decimal_is_IsNumeral}
 use Rattle.std.proofs.lemmas.List.{append_cancel_right}
-use Rattle.script_fit.specs.Texts.{crowds_text, room_line}
+use Rattle.script_demand.specs.Texts.{crowds_text, room_line}
 
 -- ---- the digits at the end of a text
 -- a text with a space in it is not all digits

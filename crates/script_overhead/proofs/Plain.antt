@@ -36,7 +36,7 @@ use Rattle.script_grammar.specs.Values.{stale_hop_wall_value, stale_path_value, 
 use Rattle.script_grammar.specs.declared.line.ScriptLine.{ScriptLine}
 use Rattle.script_grammar.specs.declared.line.ScriptLine.TheVariants as line
 use Rattle.script_grammar.proofs.Scripts.{leads_one}
-use Rattle.script_fit.specs.Findings.{IsFindingsOf}
+use Rattle.script_demand.specs.Findings.{IsFindingsOf}
 use Rattle.script_theorem.specs.RoundsAmong.{AreRoundsAndWriting, rounds_among}
 use Rattle.script_theorem.specs.Standing.{world_behind}
 use Rattle.script_theorem.proofs.LastRounds.{steps_on}

@@ -20,10 +20,10 @@ use Rattle.laws_scripts.proofs.SenderLines.{each_script_lets_few_send}
 use Rattle.script_grammar.specs.Draft.{Draft, nothing, plan_of, routing}
 use Rattle.script_grammar.specs.Grammar.{IsScript, Leads}
 use Rattle.script_grammar.proofs.Scripts.{leads_one}
-use Rattle.script_fit.specs.Begun.{begun_by}
-use Rattle.script_fit.specs.Findings.{IsFindingsText}
-use Rattle.script_fit.specs.Texts.{findings_text, room_text}
-use Rattle.script_fit.proofs.Sayings.{said_unfit}
+use Rattle.script_demand.specs.Begun.{begun_by}
+use Rattle.script_demand.specs.Findings.{IsFindingsText}
+use Rattle.script_demand.specs.Texts.{findings_text, room_text}
+use Rattle.script_demand.proofs.Sayings.{said_unfit}
 use Rattle.script_theorem.specs.Standing.{world_behind}
 use Rattle.script_theorem.proofs.Same.{same_fit}
 use Rattle.script_theorem.proofs.WorldDemands.{scripts_stand}

@@ -44,10 +44,10 @@ use Rattle.script_grammar.specs.declared.line.HopLine.{HopLine}
 use Rattle.script_grammar.specs.declared.line.SendLine.{SendLine}
 use Rattle.script_grammar.specs.declared.line.ScriptLine.TheVariants as line
 use Rattle.script_grammar.proofs.Scripts.{leads_one}
-use Rattle.script_fit.specs.Begun.{begun_by}
-use Rattle.script_fit.specs.Findings.{IsFindingsOf, IsFindingsText}
-use Rattle.script_fit.specs.Texts.{findings_text, room_line, room_text}
-use Rattle.script_fit.proofs.Sayings.{fit_unsaid}
+use Rattle.script_demand.specs.Begun.{begun_by}
+use Rattle.script_demand.specs.Findings.{IsFindingsOf, IsFindingsText}
+use Rattle.script_demand.specs.Texts.{findings_text, room_line, room_text}
+use Rattle.script_demand.proofs.Sayings.{fit_unsaid}
 use Rattle.settle_refreshes.specs.Plain.{IsPlainEvent}
 use Rattle.settle_refreshes.specs.Refreshes.{HasOnlyRefreshes}
 use Rattle.script_overhead.specs.Plain.{ArePlainEvents, EndsInRounds, EndsPlainly}

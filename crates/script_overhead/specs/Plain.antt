@@ -10,7 +10,7 @@ use Rattle.network_model.specs.Bounds.{EndsInCalm}
 use Rattle.network_model.specs.Events.{Event, rounds}
 use Rattle.network_model.specs.Runs.{Plan, first_world, is_crowded_run, steps_of_run}
 use Rattle.network_model.specs.Steps.{machine}
-use Rattle.script_fit.specs.Findings.{IsFindingsOf}
+use Rattle.script_demand.specs.Findings.{IsFindingsOf}
 use Rattle.script_grammar.specs.Draft.{Draft, nothing, plan_of, routing}
 use Rattle.script_grammar.specs.Grammar.{IsScript, Leads}
 use Rattle.script_theorem.specs.RoundsAmong.{AreRoundsAndWriting, rounds_among}

@@ -9,9 +9,9 @@ use Rattle.network_model.specs.Runs.{Plan, first_world, is_crowded_run, steps_of
 use Rattle.network_model.specs.Steps.{machine}
 use Rattle.network_model.specs.Worlds.{World}
 use Rattle.network_demand.specs.Overhead.{overhead}
-use Rattle.script_fit.specs.Findings.{IsFindingsOf}
-use Rattle.script_fit.specs.Laws.{SaysAMisfit}
-use Rattle.script_fit.specs.Texts.{room_line}
+use Rattle.script_demand.specs.Findings.{IsFindingsOf}
+use Rattle.script_demand.specs.Laws.{SaysAMisfit}
+use Rattle.script_demand.specs.Texts.{room_line}
 use Rattle.script_grammar.specs.Draft.{Draft, nothing, routing}
 use Rattle.script_grammar.specs.Grammar.{IsScript, Leads}
 use Rattle.script_theorem.specs.Standing.{world_behind}

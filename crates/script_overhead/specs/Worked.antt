@@ -6,7 +6,7 @@ use Rattle.network_model.specs.Runs.{Plan}
 use Rattle.network_model.specs.Steps.{Piece, step}
 use Rattle.network_model.specs.ThreeRouters.{first, flow, session}
 use Rattle.laws_network.specs.Beginning.{left_plan}
-use Rattle.script_fit.specs.Findings.{IsFindingsOf}
+use Rattle.script_demand.specs.Findings.{IsFindingsOf}
 use Rattle.script_grammar.specs.Grammar.{IsScript}
 use Rattle.script_overhead.specs.Plain.{EndsInRounds, EndsPlainly}
 use Rattle.script_overhead.specs.Roomy.{EndsSettled, SaysRoomFor, end_of}
