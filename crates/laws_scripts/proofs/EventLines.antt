@@ -10,7 +10,7 @@ use Rattle.rsvp_base.specs.Table.{get, size}
 use Rattle.rsvp_base.proofs.Counts.{found_in, in_set_of}
 use Rattle.rsvp_base.proofs.Members.{in_any, to_each}
 use Rattle.rsvp_base.proofs.SetLaws.{and_both}
-use Rattle.message_decode.proofs.ProperRead.{what_is_spelt_is_proper}
+use Rattle.message_codec.proofs.ProperRead.{what_is_spelt_is_proper}
 use Rattle.script_words.specs.declared.raw.SenderWord.{SenderWord}
 use Rattle.script_words.specs.Addresses.{addr_value}
 use Rattle.script_words.specs.Lines.{text_lines}

@@ -4,7 +4,7 @@ use Rattle.hex.specs.Hex.{decode_of}
 use Rattle.hex.specs.declared.error.FromHexError.{FromHexError}
 use Rattle.hex.proofs.HexLemmas.{decode_of-ok}
 use Rattle.rsvp_objects.specs.Fields.{AreBytes}
-use Rattle.message_decode.proofs.ProperRead.{bytes_of as are_bytes}
+use Rattle.message_codec.proofs.ProperRead.{bytes_of as are_bytes}
 use Rattle.rsvp_base.specs.EndNames.{is_name}
 use Rattle.script_grammar.specs.LineKinds.{bytes_of, script_line_of, some_bytes}
 use Rattle.script_grammar.specs.declared.line.ScriptLine.{ScriptLine}

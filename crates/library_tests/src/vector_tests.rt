@@ -6,8 +6,7 @@ use crate::object_vectors::{
     ADSPEC, CONFIRM, ERROR, FF, FILTER, FLOW, HOP, INTEGRITY, NULL, OTHER_FILTER, POLICY, SE,
     SESSION, TIME, WF, WHOLE_ADSPEC, bare, joined, message,
 };
-use message_decode::decode;
-use message_encode::encode;
+use message_codec::{decode, encode};
 use rsvp_base::{Addr, Peak, Rate, Session};
 use rsvp_messages::{Fault, Kind, Message, PathMsg};
 use rsvp_objects::{ObjErr, Packet};

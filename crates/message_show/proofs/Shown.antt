@@ -9,7 +9,7 @@ use Rattle.script_words.specs.Lines.{text_lines, line_number}
 use Rattle.script_words.specs.declared.fault.LineErr.{LineErr}
 use Rattle.script_words.specs.declared.fault.LineWhy.{LineWhy}
 use Rattle.script_words.specs.declared.fault.LineWhy.TheVariants.{Word, Late, Range, Name, Twice, Limit, Over}
-use Rattle.message_decode.specs.Laws.{AMessageIsOne, NoFaultWhereSpelt, TheFirstFaultIsOne}
+use Rattle.message_codec.specs.Laws.{AMessageIsOne, NoFaultWhereSpelt, TheFirstFaultIsOne}
 use Rattle.message_show.specs.MessageText.{message_text}
 use Rattle.message_show.specs.RefusalText.{refusal_text}
 use Rattle.message_show.specs.Readings.{IsReading}

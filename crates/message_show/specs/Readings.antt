@@ -1,6 +1,6 @@
 -- What is shown of bytes: the message that they spell, or their first fault.
 use Rattle.std.specs.Prelude.{◌≡◌, ◌⊎◌, ℕ, List}
-use Rattle.message_decode.specs.Spells.{Spells, IsFirstFault}
+use Rattle.message_codec.specs.Spells.{Spells, IsFirstFault}
 use Rattle.rsvp_messages.specs.declared.fault.MsgErr.{MsgErr}
 use Rattle.rsvp_messages.specs.declared.message.Message.{Message}
 use Rattle.message_show.specs.MessageText.{message_text}

@@ -1,7 +1,7 @@
 //! Laws of what is shown.
 ghost use Rattle.message_show.specs.Laws.{BadIsNotRight, OneBadLine, OneTextIsShown, ShownIsRight};
 
-use message_decode::laws::{a_message_is_one, no_fault_where_spelt, the_first_fault_is_one};
+use message_codec::laws::{a_message_is_one, no_fault_where_spelt, the_first_fault_is_one};
 
 /// Of an input one text is shown.
 pub fn one_text_is_shown()

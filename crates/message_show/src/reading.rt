@@ -5,7 +5,7 @@ ghost use Rattle.message_show.specs.Readings.{IsReading};
 
 use crate::message::put_message;
 use crate::refusal::put_refusal;
-use message_decode::decode;
+use message_codec::decode;
 use rsvp_base::NoMemory;
 
 /// Appends the line of the message that these bytes spell, or of their first fault. `NoMemory`: the room that the

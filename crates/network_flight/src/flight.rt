@@ -1,11 +1,11 @@
 //! The datagrams in flight.
 ghost use Rattle.std.specs.Prelude.{◌≡◌, ◌≤◌, ◌<◌, ◌↔◌, ◌++◌, ◌∷◌, [], length, None, IfOk, IfSome, IfNone, OnOk, OnErr, IsErr, MatchOption, slice_get, Some, vec_len, vec_capacity};
 ghost use Rattle.std.specs.List.{remove};
-ghost use Rattle.message_encode.specs.Encoding.{encoding};
+ghost use Rattle.message_codec.specs.Encoding.{encoding};
 ghost use Rattle.network_flight.specs.Parcels.{Parcel as AParcel};
 
 use crate::rooms::take_room;
-use message_encode::encode_into;
+use message_codec::encode_into;
 use rsvp_base::{Addr, Full, NoMemory};
 use rsvp_messages::Message;
 use rsvp_objects::Packet;

@@ -1,7 +1,7 @@
 //! What a node sends is put in flight, for each end to which it goes.
 ghost use Rattle.std.specs.Prelude.{◌≡◌, ◌<◌, ◌++◌, ◌↔◌, ℕ, IsErr, length, map, take};
 ghost use Rattle.std.specs.List.{filter, list_any};
-ghost use Rattle.message_encode.specs.Encoding.{encoding};
+ghost use Rattle.message_codec.specs.Encoding.{encoding};
 ghost use Rattle.network_model.specs.Links.{ends_toward, goes_to, is_group};
 ghost use Rattle.network_flight.specs.Parcels.{parcel};
 ghost use Rattle.network_model.specs.NodeConfig.{is_addr};

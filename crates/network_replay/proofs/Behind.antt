@@ -3,7 +3,7 @@ use Rattle.std.proofs.Common.{◌≡◌, ℕ, ◌<◌, ◌≤◌, List, [], ◌�
 use Rattle.std.proofs.Common.{ltb-true, ltb-false}
 use Rattle.std.specs.Prelude.{fold, nat_lt, ◌||◌, ◌&&◌, ◌↔◌, Option, None, Some, IfSome, Result, Ok, Err, IsErr, OnOk, OnErr, is_err}
 use Rattle.std.proofs.lemmas.List.{take_all, take-append-le, length-take-le}
-use Rattle.message_encode.specs.Written.{is_in_range}
+use Rattle.message_codec.specs.Written.{is_in_range}
 use Rattle.router_rules.specs.Inputs.{Send}
 use Rattle.network_flight.specs.Parcels.{Parcel}
 use Rattle.network_replay.specs.Posting.{Post, put_behind, parcels_of, all_parcels, with_post}

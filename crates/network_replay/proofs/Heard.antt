@@ -1,7 +1,7 @@
 -- What bytes are, by what was read of them.
 use Rattle.std.proofs.Common.{◌≡◌, ℕ, List, sym, ap, ◌∙◌}
 use Rattle.std.specs.Prelude.{Result, Ok, Err}
-use Rattle.message_decode.specs.Spells.{Spells, IsFirstFault}
+use Rattle.message_codec.specs.Spells.{Spells, IsFirstFault}
 use Rattle.rsvp_messages.specs.declared.fault.MsgErr.{MsgErr}
 use Rattle.rsvp_messages.specs.declared.message.Message.{Message}
 use Rattle.router_rules.specs.Inputs.{Arrival, Spelt, Unspelt}

@@ -5,10 +5,10 @@ use Rattle.std.proofs.lemmas.List.{map-append, take_all}
 use Rattle.std.specs.List.{All}
 use Rattle.std.proofs.lemmas.Bool.{and_parts}
 use Rattle.std.proofs.lemmas.List.Elements.{All-nil, All-cons, All-head, All-tail}
-use Rattle.message_decode.specs.Spells.{Spells}
-use Rattle.message_encode.specs.Encoding.{encoding}
-use Rattle.message_encode.specs.Written.{is_in_range}
-use Rattle.message_encode.proofs.Bytes.{in_range_spelt}
+use Rattle.message_codec.specs.Spells.{Spells}
+use Rattle.message_codec.specs.Encoding.{encoding}
+use Rattle.message_codec.specs.Written.{is_in_range}
+use Rattle.message_codec.proofs.Bytes.{in_range_spelt}
 use Rattle.rsvp_messages.specs.Proper.{IsProper}
 use Rattle.router_rules.specs.Inputs.{Send}
 use Rattle.tree_model.specs.Networks.{Net, end_at}

@@ -1,7 +1,7 @@
 -- The line that tells a delivery is the one of the model.
 use Rattle.std.proofs.Common.{◌≡◌, ℕ, List, [], Bool, true, false, Option, None, Some, refl, sym, ap, ◌∙◌}
 use Rattle.std.specs.Prelude.{slice_get, cond, Result, Ok, Err}
-use Rattle.message_decode.specs.Spells.{Spells, IsFirstFault}
+use Rattle.message_codec.specs.Spells.{Spells, IsFirstFault}
 use Rattle.rsvp_messages.specs.declared.fault.MsgErr.{MsgErr}
 use Rattle.rsvp_messages.specs.declared.message.Kind.{Kind}
 use Rattle.rsvp_messages.specs.declared.message.Message.{Message}

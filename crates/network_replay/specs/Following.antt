@@ -1,8 +1,8 @@
 -- How routers are seen, what the bytes of a datagram are, and what may be sent.
 use Rattle.std.specs.Prelude.{ℕ, List}
 use Rattle.std.specs.List.{All}
-use Rattle.message_decode.specs.Spells.{Spells, IsFirstFault}
-use Rattle.message_encode.specs.Encoding.{encoding}
+use Rattle.message_codec.specs.Spells.{Spells, IsFirstFault}
+use Rattle.message_codec.specs.Encoding.{encoding}
 use Rattle.router_rules.specs.Facts.{Facts}
 use Rattle.network_model.specs.Happenings.{IsSpelling}
 use Rattle.router_rules.specs.Inputs.{Arrival, Send}

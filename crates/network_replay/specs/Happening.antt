@@ -5,7 +5,7 @@ use Rattle.network_model.specs.Moves.{CanMove}
 use Rattle.network_model.specs.Steps.{rerouted}
 use Rattle.network_model.specs.declared.event.Event.{Event}
 use Rattle.network_model.specs.declared.event.Event.TheVariants as event
-use Rattle.message_decode.specs.Spells.{Spells, IsFirstFault}
+use Rattle.message_codec.specs.Spells.{Spells, IsFirstFault}
 use Rattle.router_rules.specs.Inputs.{Arrival}
 use Rattle.tree_model.specs.Networks.{Net}
 

@@ -1,8 +1,8 @@
 -- What the nodes of a network post is put in flight.
 use Rattle.std.specs.Prelude.{ℕ, nat_lt, Bool, ◌||◌, ◌&&◌, List, ◌++◌, map as each, length, take}
 use Rattle.std.specs.List.{flat_map}
-use Rattle.message_encode.specs.Encoding.{encoding}
-use Rattle.message_encode.specs.Written.{is_in_range}
+use Rattle.message_codec.specs.Encoding.{encoding}
+use Rattle.message_codec.specs.Written.{is_in_range}
 use Rattle.router_rules.specs.Inputs.{Send}
 use Rattle.tree_model.specs.Networks.{Net, end_at}
 use Rattle.network_flight.specs.Links.{goes_to}

@@ -1,13 +1,13 @@
 //! The outbox of a network.
 ghost use Rattle.std.specs.Prelude.{◌≡◌, ◌||◌, ◌≤◌, ◌∷◌, [], true, false, IfOk, IfSome, IfNone, MatchOption, None, Some, length, map, slice_get};
 ghost use Rattle.std.specs.List.{remove};
-ghost use Rattle.message_encode.specs.Encoding.{encoding};
+ghost use Rattle.message_codec.specs.Encoding.{encoding};
 ghost use Rattle.network_flight.specs.Links.{goes_to};
 ghost use Rattle.tree_model.specs.Networks.{end_at};
 ghost use Rattle.network_flight.specs.Parcels.{Parcel as AParcel, parcel};
 ghost use Rattle.network_replay.specs.Posting.{put_behind, with_post};
 
-use message_encode::know_range;
+use message_codec::know_range;
 use network_flight::{Flight, Wires, put_copies};
 use router_rules::Outbox;
 use rsvp_base::{Addr, NoMemory};

@@ -16,7 +16,7 @@ ghost use Rattle.router_rules.specs.Rule.{facts_after, heard_after, sent_after};
 
 use crate::mail::Mail;
 use crate::router::Router;
-use message_decode::decode;
+use message_codec::decode;
 use network_model::LocalCall;
 use router_rules::Heard;
 use rsvp_base::Addr;

@@ -6,7 +6,7 @@ ghost use Rattle.network_replay.specs.Following.{IsArrival};
 ghost use Rattle.network_replay.specs.Telling.{arrival_kind, told_line, text_of_kind};
 ghost use Rattle.router_rules.specs.Inputs.{Arrival};
 
-use message_decode::decode;
+use message_codec::decode;
 use router_rules::{Heard, Why};
 use rsvp_base::{EndName, NoMemory};
 use rsvp_messages::Kind;

@@ -1,7 +1,7 @@
 -- A frame has one consequence, or a fault.
 use Rattle.std.proofs.Common.{◌≡◌, ℕ, List, ◌++◌, Option, None, Some, is_some, refl, sym, ap, subst, ◌∙◌}
 use Rattle.std.proofs.lemmas.Option.{same_Some}
-use Rattle.message_decode.proofs.OneAnswer.{a_message_is_one, no_fault_where_spelt, the_first_fault_is_one}
+use Rattle.message_codec.proofs.OneAnswer.{a_message_is_one, no_fault_where_spelt, the_first_fault_is_one}
 use Rattle.network_replay.specs.Following.{IsArrival}
 use Rattle.node_stream.specs.Answers.{heard_frame}
 use Rattle.node_stream.specs.Layout.{datagram_in}

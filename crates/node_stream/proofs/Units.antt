@@ -2,9 +2,9 @@
 use Rattle.std.proofs.Common.{◌≡◌, ◌≤◌, true, length, arith}
 use Rattle.std.proofs.lemmas.List.{length-map}
 use Rattle.laws_bounds.specs.CountLaws.{HasFewUnits}
-use Rattle.message_encode.proofs.Testing.{range_is_known}
-use Rattle.message_encode.specs.Encoding.{IsAskFew, IsFew}
-use Rattle.message_encode.specs.Written.{is_in_range}
+use Rattle.message_codec.proofs.Testing.{range_is_known}
+use Rattle.message_codec.specs.Encoding.{IsAskFew, IsFew}
+use Rattle.message_codec.specs.Written.{is_in_range}
 use Rattle.rsvp_messages.specs.Units.{asked_units, fixed_unit}
 use Rattle.rsvp_messages.specs.declared.ask.Ask.{Ask}
 use Rattle.rsvp_messages.specs.declared.ask.Ask.TheVariants as ask

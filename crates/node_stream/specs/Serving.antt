@@ -1,7 +1,7 @@
 -- What serving frames does: where the router stands behind them, and what is written.
 use Rattle.std.specs.Prelude.{◌≡◌, ℕ, List, [], ◌∷◌, ◌++◌, Option, None, Some, is_some}
 use Rattle.std.specs.List.{flat_map}
-use Rattle.message_encode.specs.Encoding.{encoding}
+use Rattle.message_codec.specs.Encoding.{encoding}
 use Rattle.network_replay.specs.Following.{IsArrival}
 use Rattle.node_stream.specs.Answers.{heard_frame, sent_frame}
 use Rattle.node_stream.specs.Layout.{datagram_in, frame_of}

@@ -5,7 +5,7 @@ ghost use Rattle.node_stream.specs.Answers.{heard_frame};
 ghost use Rattle.node_stream.specs.Posting.{nothing_posted, with_post};
 
 use crate::answers::{put_heard, put_sent};
-use message_encode::encode_into;
+use message_codec::encode_into;
 use router_rules::{Heard, Outbox};
 use rsvp_base::{Addr, NoMemory};
 use rsvp_messages::Message;

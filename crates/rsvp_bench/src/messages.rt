@@ -3,8 +3,7 @@ ghost use Rattle.std.specs.Prelude.{◌<◌};
 
 use crate::tables::{Served, both, once};
 use crate::vectors::{Vector, bytes_of};
-use message_decode::decode;
-use message_encode::encode_into;
+use message_codec::{decode, encode_into};
 use rsvp_base::{Addr, ErrSpec, Flow, Hop, Peak, Sender, Senders, Session};
 use rsvp_messages::{
     Ask, Blame, Message, PathErrMsg, PathMsg, PathTearMsg, ResvConfMsg, ResvErrMsg, ResvMsg,

@@ -9,7 +9,7 @@ use crate::flying::{Flying, put_flying};
 use crate::lines::{put_end, put_line, put_report, put_round};
 use crate::senders::{From, sender_of};
 use byte_streams::{Sink, write_all};
-use message_decode::decode;
+use message_codec::decode;
 use network_flight::room;
 use network_model::Event;
 use network_replay::{Router, World};

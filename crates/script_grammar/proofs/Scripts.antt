@@ -2,7 +2,7 @@
 use Rattle.std.proofs.Common.{◌≡◌, ◌⊎◌, ℕ, ◌<◌, ◌≤◌, List, [], ◌∷◌, ◌++◌, Option, Some, None, length, slice_get, suc, refl, sym, ap, subst, ◌∙◌, arith, inl, inr}
 use Rattle.rsvp_base.specs.declared.addr.Addr.{Addr}
 use Rattle.script_words.specs.Lines.{text_lines}
-use Rattle.message_decode.proofs.OneAnswer.{a_message_is_one, no_fault_where_spelt, the_first_fault_is_one}
+use Rattle.message_codec.proofs.OneAnswer.{a_message_is_one, no_fault_where_spelt, the_first_fault_is_one}
 use Rattle.network_model.specs.RouterRules.Inputs.{Arrival, Spelt, Unspelt}
 use Rattle.network_model.specs.TreeModel.declared.hops.LinkHop.{LinkHop}
 use Rattle.network_model.specs.TreeModel.Networks.{Net}

@@ -13,7 +13,7 @@ use Rattle.network_model.specs.Units.{only}
 use Rattle.script_words.specs.Addresses.{addr_value}
 use Rattle.script_words.specs.Flows.{flow_value}
 use Rattle.script_words.specs.Sessions.{sender_value, session_value}
-use Rattle.message_decode.specs.Spells.{Spells, IsFirstFault}
+use Rattle.message_codec.specs.Spells.{Spells, IsFirstFault}
 use Rattle.rsvp_base.specs.Styles.{part_unit}
 use Rattle.network_model.specs.RouterRules.Inputs.{Arrival, Local, QuitAll, Stale}
 use Rattle.network_model.specs.TreeModel.declared.hops.TreeHop.{TreeHop}

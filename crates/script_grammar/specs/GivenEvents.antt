@@ -1,6 +1,6 @@
 -- An event that a line adds to those before, as it is given to be run.
 use Rattle.std.specs.Prelude.{◌≡◌, List, [], ◌∷◌, ◌++◌, Option, None, Some}
-use Rattle.message_decode.specs.Spells.{Spells, IsFirstFault}
+use Rattle.message_codec.specs.Spells.{Spells, IsFirstFault}
 use Rattle.network_model.specs.Events.{Event as Happening}
 use Rattle.network_model.specs.Happenings.{IsFitEvent, IsReading, event_with}
 use Rattle.network_model.specs.RouterRules.Inputs.{Arrival}

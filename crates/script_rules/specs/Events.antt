@@ -3,7 +3,7 @@ use Rattle.std.specs.Prelude.{None, Some, Option, Result, Ok, Err}
 use Rattle.rsvp_messages.specs.declared.fault.Fault.TheVariants as fault
 use Rattle.rsvp_messages.specs.declared.fault.MsgErr.{MsgErr}
 use Rattle.rsvp_messages.specs.declared.message.Message.{Message}
-use Rattle.message_decode.specs.Hints.{no_hint}
+use Rattle.message_codec.specs.Hints.{no_hint}
 use Rattle.router_rules.specs.Inputs.{Arrival, Spelt, Unspelt}
 use Rattle.script_grammar.specs.Events.{Event as Happening}
 use Rattle.network_model.specs.Happenings.{event_with}

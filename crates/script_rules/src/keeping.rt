@@ -9,7 +9,7 @@ ghost use Rattle.script_rules.specs.Said.{draft_of};
 ghost use Rattle.network_model.specs.Events.{ReportsAdverts};
 
 use crate::state::ScriptState;
-use message_decode::decode;
+use message_codec::decode;
 use network_model::Event;
 use rsvp_messages::{Message, MsgErr};
 

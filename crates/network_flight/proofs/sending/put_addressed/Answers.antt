@@ -3,7 +3,7 @@ use Rattle.std.specs.Prelude.{map as each}
 use Rattle.std.specs.List.{filter}
 use Rattle.std.proofs.lemmas.List.{take_all}
 use Rattle.rsvp_base.specs.declared.addr.Addr.{Addr}
-use Rattle.message_encode.specs.Encoding.{encoding}
+use Rattle.message_codec.specs.Encoding.{encoding}
 use Rattle.network_model.specs.NodeConfig.{is_addr}
 use Rattle.tree_model.specs.Goals.{addr_of}
 use Rattle.network_flight.specs.Parcels.{Parcel, parcel}

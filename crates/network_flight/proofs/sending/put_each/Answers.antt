@@ -1,7 +1,7 @@
 use Rattle.std.proofs.Common.{◌≡◌, ◌<◌, ◌≤◌, ◌+◌, ◌++◌, ◌∙◌, List, refl, ap, arith, length, take, drop, get_or, subst}
 use Rattle.std.specs.Prelude.{map as each}
 use Rattle.std.proofs.lemmas.List.{take_all}
-use Rattle.message_encode.specs.Encoding.{encoding}
+use Rattle.message_codec.specs.Encoding.{encoding}
 use Rattle.network_flight.specs.Parcels.{Parcel, parcel}
 use Rattle.network_flight.proofs.Puts.{all_put, stops_at, each_split}
 use Rattle.network_flight.proofs.sending.put_each.Goals as goal

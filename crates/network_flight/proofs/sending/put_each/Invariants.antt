@@ -1,6 +1,6 @@
 use Rattle.std.proofs.Common.{◌≡◌, ◌++◌, take}
 use Rattle.std.specs.Prelude.{map as each}
-use Rattle.message_encode.specs.Encoding.{encoding}
+use Rattle.message_codec.specs.Encoding.{encoding}
 use Rattle.network_flight.specs.Parcels.{parcel}
 use Rattle.network_flight.proofs.sending.put_each.Given as goal
 

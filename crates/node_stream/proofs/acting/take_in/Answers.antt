@@ -1,6 +1,6 @@
 use Rattle.std.proofs.Common.{subst}
 use Rattle.std.specs.Prelude.{IfErr, IfOk, Result}
-use Rattle.message_decode.specs.Spells.{IsFirstFault, Spells}
+use Rattle.message_codec.specs.Spells.{IsFirstFault, Spells}
 use Rattle.router_rules.specs.Inputs.{Spelt, Unspelt}
 use Rattle.rsvp_messages.specs.declared.fault.MsgErr.{MsgErr}
 use Rattle.rsvp_messages.specs.declared.message.Message.{Message}

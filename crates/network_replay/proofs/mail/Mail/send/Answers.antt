@@ -1,6 +1,6 @@
 use Rattle.std.proofs.Common.{true, ◌≡◌, ◌∙◌, ◌++◌, ℕ, List, Option, Bool, ap, ap₂, subst, take, length}
 use Rattle.std.specs.Prelude.{map as each, nat_lt, ◌||◌, is_err}
-use Rattle.message_encode.specs.Encoding.{encoding}
+use Rattle.message_codec.specs.Encoding.{encoding}
 use Rattle.network_flight.specs.Links.{goes_to}
 use Rattle.tree_model.specs.Networks.{end_at}
 use Rattle.network_flight.specs.Parcels.{Parcel, parcel}

@@ -1,0 +1,17 @@
+pub mod Sum
+pub mod Table
+pub mod Said
+pub mod Places
+pub mod Messages
+pub mod Grammar
+pub mod Hints
+pub mod Finishing
+pub mod Firsts
+pub mod Spells
+pub mod Laws
+pub mod Taking
+pub mod Objects
+pub mod Ranges
+pub mod Encoding
+pub mod Written
+pub mod WritingLaws

@@ -1,5 +1,0 @@
-use Rattle.message_decode.proofs.OneAnswer.{the_first_fault_is_one}
-use Rattle.message_decode.proofs.laws.the_first_fault_is_one.Goals as goal
-
-pub returns : goal.returns
-returns c = the_first_fault_is_one

@@ -1,5 +1,0 @@
-use Rattle.message_decode.proofs.Grammar.{what_is_in_grammar_is_in_place}
-use Rattle.message_decode.proofs.laws.what_is_in_grammar_is_in_place.Goals as goal
-
-pub returns : goal.returns
-returns c = what_is_in_grammar_is_in_place

@@ -1,5 +1,0 @@
-use Rattle.message_decode.proofs.Grammar.{what_stands_is_in_grammar}
-use Rattle.message_decode.proofs.laws.what_stands_is_in_grammar.Goals as goal
-
-pub returns : goal.returns
-returns c = what_stands_is_in_grammar

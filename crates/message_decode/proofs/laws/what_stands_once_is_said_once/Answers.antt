@@ -1,5 +1,0 @@
-use Rattle.message_decode.proofs.Whole.{what_stands_once_is_said_once}
-use Rattle.message_decode.proofs.laws.what_stands_once_is_said_once.Goals as goal
-
-pub returns : goal.returns
-returns c = what_stands_once_is_said_once

@@ -1,5 +1,0 @@
-use Rattle.message_encode.proofs.Testing.{range_is_known}
-use Rattle.message_encode.proofs.laws.in_range_is_what_types_know.Goals as goal
-
-pub returns : goal.returns
-returns c = range_is_known

@@ -1,5 +1,0 @@
-use Rattle.message_encode.proofs.Bytes.{in_range_spelt}
-use Rattle.message_encode.proofs.laws.what_is_in_range_is_spelt.Goals as goal
-
-pub returns : goal.returns
-returns c = in_range_spelt

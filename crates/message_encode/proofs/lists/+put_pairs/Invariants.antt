@@ -1,5 +1,0 @@
-use Rattle.std.proofs.Common.{length}
-use Rattle.message_encode.proofs.lists.+put_pairs.Given as goal
-
-abbrev pub decreases-put_pairs : goal.decreases-put_pairs
-decreases-put_pairs l = length l.pairs.now

@@ -1,5 +1,0 @@
-pub mod Objects
-pub mod Ranges
-pub mod Encoding
-pub mod Written
-pub mod Laws
