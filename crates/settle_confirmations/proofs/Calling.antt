@@ -14,7 +14,7 @@ use Rattle.rsvp_base.specs.Members.{In}
 use Rattle.rsvp_base.specs.Orders.{Names, senders, sessions, styles, units}
 use Rattle.rsvp_base.specs.Sets.{cut}
 use Rattle.rsvp_base.specs.Styles.{name_of, part_unit, unit_of_first}
-use Rattle.rsvp_base.specs.Table.{Table, empty, get, has, keys}
+use Rattle.rsvp_base.specs.Table.{empty, get, has, keys}
 use Rattle.rsvp_base.specs.TokenBucket.{IsSound, TokenBucket}
 use Rattle.rsvp_base.proofs.Members.{in_append, in_each, in_right, to_each}
 use Rattle.rsvp_base.proofs.SetLaws.{and_both, has-cut}
@@ -51,7 +51,7 @@ use Rattle.router_rules.specs.Act.{act}
 use Rattle.router_rules.specs.Asking.{ask_of}
 use Rattle.router_rules.specs.Bounds.{IsWantShape}
 use Rattle.router_rules.specs.Calls.{call_refusal, unless, wanted, wants_with}
-use Rattle.router_rules.specs.Facts.{Facts, ResvTables, Want, WantKey, resvs_of, sender_keys, table_of}
+use Rattle.router_rules.specs.Facts.{Facts, ResvTables, Want, WantKey, resvs_of, table_of}
 use Rattle.router_rules.specs.Inputs.{Arrival, Call, Change, Local, Send, Spelt, WantAs}
 use Rattle.router_rules.specs.Known.{Lane, names_via}
 use Rattle.router_rules.specs.NodeConfig.{NodeConfig, own}
@@ -73,11 +73,10 @@ use Rattle.network_model.specs.Locals.{IsLive, locals_of}
 use Rattle.network_model.specs.Steps.{At, machine, ms_of, outcome, sent, still}
 use Rattle.network_model.specs.Worlds.{Item, World, config_of}
 use Rattle.network_model.proofs.Changing.{what_is_sent_is_copied}
-use Rattle.network_model.proofs.NodeLocals.{is_live, live_told}
-use Rattle.network_model.proofs.Stepping.{facts_after_found, facts_after_made}
+use Rattle.network_model.proofs.NodeLocals.{live_told}
+use Rattle.network_model.proofs.Stepping.{facts_after_made}
 use Rattle.laws_network.proofs.Known.{has_some, of_some}
 use Rattle.laws_network.proofs.Standing.{own_end, to_there}
-use Rattle.settle_paths.proofs.LiveSenders.{senders_found}
 use Rattle.settle_paths.proofs.PreviousHops.{ahead}
 use Rattle.settle_resvs.specs.Sessions.{HasNoBlockade}
 use Rattle.settle_resvs.proofs.GoalByIface.{each_fits}
@@ -85,31 +84,14 @@ use Rattle.settle_resvs.proofs.TowardIsTheWant.{unmarked}
 use Rattle.settle_resvs.proofs.TowardNames.{parts_of_style}
 use Rattle.settle_network.specs.Settled.{HasSettled}
 use Rattle.settle_passes.specs.Reserving.{AsksNoLess, IsReserving, after_want}
-use Rattle.settle_passes.proofs.Calls.{IsCalled, called, called_there}
 use Rattle.settle_passes.proofs.Serving.{begins, settled_is_reserved}
-use Rattle.settle_passes.proofs.Wanting.{a_receiver_is_set_up}
+use Rattle.settle_passes.proofs.Wanting.{a_receiver_is_set_up, wanted_told}
+use Rattle.settle_passes.proofs.Called.{IsCalled, called, called_there, live_back, unless_same}
 use Rattle.settle_confirmations.specs.Requests.{IsAnswered, IsConfirmed, IsForAtLeast, IsOnlySender, IsRequest, arrival_units}
 use Rattle.settle_confirmations.proofs.Arriving.{same_at}
 use Rattle.settle_confirmations.proofs.Holding.{what_is_confirmed_is_held as requests_are_held}
 use Rattle.settle_confirmations.proofs.Moving.{listed_one}
 use Rattle.settle_confirmations.proofs.Passing.{requests_are_answered}
-
-unless_same : {E X : Type 0} (o : Option E) (x : X) → unless o x x ≡ x
-unless_same None x = refl
-unless_same (Some e) x = refl
-
--- the wants of a call are of its session and style, and marked as it says
-wanted_told : (s : Session) (st : StyleKind) (names : Names) (flow : TokenBucket) (mark : Bool) (k : WantKey) (y : Want) → In (k, y) (wanted s st names flow mark)
-    → (k.0 ≡ s) × (y.style ≡ st) × (y.confirm ≡ mark)
-wanted_told s Wild names flow mark k y i =
-    ⊎_elim (λ (e : (k, y) ≡ ((s, One), record { style = Wild; part = record { senders = empty; flow = flow }; confirm = mark })).
-    (ap (λ (z : WantKey × Want). z.0.0) e, ap (λ (z : WantKey × Want). z.1.style) e, ap (λ (z : WantKey × Want). z.1.confirm) e)) (λ (no : ⊥). absurd no) i
-wanted_told s Fixed names flow mark k y i =
-    let r = in_each (λ (z : Sender). ((s, Of z), record { style = Fixed; part = record { senders = only z; flow = flow }; confirm = mark })) (k, y) (keys names) i in
-    (ap (λ (z : WantKey × Want). z.0.0) r.2, ap (λ (z : WantKey × Want). z.1.style) r.2, ap (λ (z : WantKey × Want). z.1.confirm) r.2)
-wanted_told s Shared names flow mark k y i =
-    ⊎_elim (λ (e : (k, y) ≡ ((s, One), record { style = Shared; part = record { senders = names; flow = flow }; confirm = mark })).
-    (ap (λ (z : WantKey × Want). z.0.0) e, ap (λ (z : WantKey × Want). z.1.style) e, ap (λ (z : WantKey × Want). z.1.confirm) e)) (λ (no : ⊥). absurd no) i
 
 -- and all of them are for its flow
 wanted_flow : (s : Session) (st : StyleKind) (names : Names) (flow : TokenBucket) (mark : Bool) (k : WantKey) (y : Want) → In (k, y) (wanted s st names flow mark) → y.part.flow ≡ flow
@@ -511,16 +493,8 @@ module _ (q n : ℕ) (s : Session) (st : StyleKind) (names : Names) (flow : Toke
         (send_told p p c (Call call) f z i)
 
   -- ---- nobody begins to send
-  senders_same : (m : ℕ) (f : Facts) → (outcome q (At n call) w m f).facts.senders ≡ f.senders
-  senders_same m f =
-      ⊎_elim (λ (h : outcome q (At n call) w m f ≡ still f). ap (λ (o : Outcome). o.facts.senders) h)
-      (λ (h : IsCalled q w n call m f). ap (λ (o : Outcome). o.facts.senders) h.is ∙ unless_same (call_refusal (config_of q w.net w.trees m) call f) f.senders) (called q w n call m f)
-
   pub live_before : (y : Sender) (t : TokenBucket) → IsLive then (s, y) t → IsLive w (s, y) t
-  live_before y t l =
-      let g = senders_found then l.node l.senders l.at in
-      let f = facts_after_found q (At n call) w l.node g.0 g.1 in
-      is_live w l.node f.0 (s, y) t f.1 (ap (λ (z : Table sender_keys TokenBucket). get z (s, y)) (sym (senders_same l.node f.0) ∙ ap (λ (z : Facts). z.senders) (sym f.2) ∙ g.2) ∙ l.sends)
+  live_before y t l = live_back q n call w refl (s, y) t l
 
   -- ---- at the end by which the path of the only sender comes
   module _ (x : Sender) (only_one : IsOnlySender w s x) where

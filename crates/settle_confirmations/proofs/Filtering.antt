@@ -1,5 +1,5 @@
 -- A receiver asks for several senders with a fixed filter, and for a confirmation: what its node sends are requests of the end by which their paths come.
-use Rattle.std.proofs.Common.{◌≡◌, ℕ, ◌+◌, ◌*◌, List, [], ◌∷◌, Bool, true, false, cond, Option, None, Some, ◌⊎◌, inl, inr, ⊎_elim, sym, refl, ap, subst, ◌∙◌}
+use Rattle.std.proofs.Common.{◌≡◌, ℕ, ◌+◌, ◌*◌, List, [], ◌∷◌, Bool, true, false, Option, None, Some, ◌⊎◌, inl, inr, ⊎_elim, sym, refl, ap, subst, ◌∙◌}
 use Rattle.std.specs.Prelude.{slice_get, is_some, map as each}
 use Rattle.rsvp_base.specs.declared.part.Part.{Part}
 use Rattle.rsvp_base.specs.declared.session.Sender.{Sender}
@@ -27,7 +27,7 @@ use Rattle.laws_bounds.proofs.Ruling.{rule_in_parts}
 use Rattle.router_rules.specs.Asking.{ask_of}
 use Rattle.router_rules.specs.Calls.{wanted}
 use Rattle.router_rules.specs.Facts.{Facts, Want, WantKey, resvs_of}
-use Rattle.router_rules.specs.Inputs.{Call, Local, Send, Spelt, Wait, WantAs}
+use Rattle.router_rules.specs.Inputs.{Call, Local, Send, Spelt, WantAs}
 use Rattle.router_rules.specs.Known.{Lane}
 use Rattle.router_rules.specs.NodeConfig.{NodeConfig, own}
 use Rattle.router_rules.specs.Requests.{toward}
@@ -39,7 +39,6 @@ use Rattle.tree_model.specs.Networks.{node_of}
 use Rattle.tree_model.specs.Ranks.{longest}
 use Rattle.tree_model.specs.Trees.{hops_of, tree}
 use Rattle.tree_model.specs.Wants.{live}
-use Rattle.tree_model.proofs.Following.{number_same}
 use Rattle.network_model.specs.Bounds.{AreBounds, AreHosts}
 use Rattle.network_model.specs.Events.{passes}
 use Rattle.network_model.specs.Locals.{locals_of}
@@ -57,10 +56,10 @@ use Rattle.settle_resvs.proofs.SoftResvs.{resv_found, resv_made}
 use Rattle.settle_resvs.proofs.TowardNames.{parts_of_style}
 use Rattle.settle_network.specs.Settled.{HasSettled}
 use Rattle.settle_passes.specs.Reserving.{AllAsk, AsksNoLess, IsAskedLast, IsKeptOver, IsReserving, after_want}
-use Rattle.settle_passes.proofs.Calls.{IsCalled, called}
 use Rattle.settle_passes.proofs.Serving.{begins, settled_is_reserved}
-use Rattle.settle_passes.proofs.Turns.{Turns, all_ask}
+use Rattle.settle_passes.proofs.Turns.{all_ask}
 use Rattle.settle_passes.proofs.Wanting.{a_receiver_is_set_up}
+use Rattle.settle_passes.proofs.Called.{IsCalled, called, turns}
 use Rattle.settle_confirmations.specs.Requests.{ComeByOneEnd, IsAnsweredForOne}
 use Rattle.settle_confirmations.proofs.Calling.{IsAskedNow, IsAskedUnit, after, asked_or_same, at_then, covers_unit, facts_are, goes_on_to, live_before, only_asked, resv_same}
 use Rattle.settle_confirmations.proofs.Choosing.{answered_for_one}
@@ -89,19 +88,6 @@ module _ (q n : ℕ) (s : Session) (names : Names) (flow : TokenBucket) (e : ℕ
 
   abbrev news : List Item
   news = each (λ (o : Item × Bool). o.0) (sent q (At n call) w)
-
-  turns : (m : ℕ) (f : Facts) → slice_get w.nodes m ≡ Some f → (outcome q (At n call) w m f ≡ still f) ⊎ Turns q (At n call) w m f
-  turns m f at =
-      ⊎_elim (λ (z : outcome q (At n call) w m f ≡ still f). inl z)
-      (λ (h : IsCalled q w n call m f).
-      inr (record {
-        input = Call call;
-        came = ap (λ (b : Bool). cond b (Some (Call call)) None) (number_same n m h.node);
-        loud = refl;
-        timeless = λ ms word e. let bad : Call call ≡ Wait ms word = e in cc;
-        is = h.is;
-      }))
-      (called q w n call m f)
 
   -- ---- what stands behind a hop stays
   kept_then : (k : HopKey) (v : Part) → IsKeptOver w k v → IsKeptOver asked k v
@@ -246,7 +232,7 @@ module _ (q n : ℕ) (s : Session) (names : Names) (flow : TokenBucket) (e : ℕ
               ⊎_elim (λ (old : In y w.flight). absurd (subst (λ (zs : List Item). In y zs) quiet old))
               (λ (new : In y news).
               let o = in_each (λ (o : Item × Bool). o.0) y (sent q (At n call) w) new in
-              all_ask q (At n call) w (r s).paths.bounds turns (r' s).paths.bounds (r' s).paths.sound k previous.there g at_g d behind y o.0.1
+              all_ask q (At n call) w (r s).paths.bounds (turns q n call w) (r' s).paths.bounds (r' s).paths.sound k previous.there g at_g d behind y o.0.1
               (subst (λ (b : Item). In (b, o.0.1) (sent q (At n call) w)) (sym o.2) o.1) l)
               (in_append y w.flight news i),
         ))

@@ -9,7 +9,7 @@ use Rattle.rsvp_base.specs.declared.session.Session.{Session}
 use Rattle.rsvp_base.specs.Members.{In}
 use Rattle.rsvp_base.specs.Table.{Table, get, has, without}
 use Rattle.rsvp_base.specs.TokenBucket.{TokenBucket}
-use Rattle.rsvp_base.proofs.Members.{in_append, in_each, in_right, to_each}
+use Rattle.rsvp_base.proofs.Members.{in_right, to_each}
 use Rattle.rsvp_base.proofs.SetLaws.{and_made}
 use Rattle.rsvp_base.proofs.Tables.{either, get-without, got_without, tied_same, tied_self}
 use Rattle.rsvp_messages.specs.declared.message.Message.TheVariants as message
@@ -51,11 +51,11 @@ use Rattle.laws_network.proofs.Standing.{way_out}
 use Rattle.settle_paths.proofs.LiveSenders.{senders_found}
 use Rattle.settle_passes.specs.Calls.{HasItsPaths, HasNoPathOf, IsNew, SendsAt, after_drop}
 use Rattle.settle_passes.specs.Passes.{Knows, after_passes}
-use Rattle.settle_passes.proofs.Calls.{IsCalled, called, called_there, path_sent_by_call, sent_by_call}
 use Rattle.settle_passes.proofs.Deliveries.{AreSoundOf, of_group, sent_is_sound, sound_of}
 use Rattle.settle_passes.proofs.Fading.{faded, fading_passes, key_from, not_tied, own_is, place_from, torn_over}
 use Rattle.settle_passes.proofs.Leaving.{IsFading, IsLeftAt, IsTearOver}
 use Rattle.settle_passes.proofs.Tearing.{TearsFrom, tears_gone}
+use Rattle.settle_passes.proofs.Called.{IsCalled, called, called_there, in_flight_then, path_before, path_on, paths_same, path_sent_by_call, sent_by_call}
 
 drop_source : (r : Option LocalErr) (m : Table sender_keys TokenBucket) (d k : SenderKey) (t : TokenBucket) → get (unless r (without m d) m) k ≡ Some t → get m k ≡ Some t
 drop_source None m d k t h = got_without sender_keys m d k t h
@@ -87,10 +87,6 @@ module _ (q n : ℕ) (d : SenderKey) (w : World) (start : HasItsPaths q w) (send
   at_root = start.hosts.placed n sends.facts d flow.0 sends.there flow.1
 
   -- ---- what is left at each node
-  paths_same : (m : ℕ) (f : Facts) → (outcome q (At n call) w m f).facts.paths ≡ f.paths
-  paths_same m f =
-      ⊎_elim (λ (h : outcome q (At n call) w m f ≡ still f). ap (λ (o : Outcome). o.facts.paths) h) (λ (h : IsCalled q w n call m f). ap (λ (o : Outcome). o.facts.paths) h.is) (called q w n call m f)
-
   sender_source : (m : ℕ) (f : Facts) (k : SenderKey) (t : TokenBucket) → get (outcome q (At n call) w m f).facts.senders k ≡ Some t → get f.senders k ≡ Some t
   sender_source m f k t e =
       ⊎_elim (λ (h : outcome q (At n call) w m f ≡ still f). sym (ap (λ (o : Outcome). get o.facts.senders k) h) ∙ e)
@@ -141,20 +137,6 @@ module _ (q n : ℕ) (d : SenderKey) (w : World) (start : HasItsPaths q w) (send
       let bad : None ≡ Some t = sym dropped ∙ ap (λ (z : Facts). get z.senders d) (sym same) ∙ now in
       cc
 
-  path_before : (m : ℕ) (g : Facts) (k : SenderKey) (x : PathState) → slice_get begun.nodes m ≡ Some g → get g.paths k ≡ Some x
-      → (f : Facts) × (slice_get w.nodes m ≡ Some f) × (get f.paths k ≡ Some x)
-  path_before m g k x b h =
-      let f = facts_after_found q (At n call) w m g b in
-      (f.0, f.1, sym (ap (λ (z : _). get z k) (ap (λ (z : Facts). z.paths) f.2 ∙ paths_same m f.0)) ∙ h)
-
-  in_flight_then : (y : Item) → In y begun.flight → In y w.flight ⊎ ((b : Bool) × In (y, b) (sent q (At n call) w))
-  in_flight_then y i =
-      ⊎_elim (λ (old : In y w.flight). inl old)
-      (λ (j : In y (each (λ (z : Item × Bool). z.0) (sent q (At n call) w))).
-      let r = in_each (λ (z : Item × Bool). z.0) y (sent q (At n call) w) j in
-      inr (r.0.1, subst (λ (z : Item). In (z, r.0.1) (sent q (At n call) w)) (sym r.2) r.1))
-      (in_append y w.flight (each (λ (z : Item × Bool). z.0) (sent q (At n call) w)) i)
-
   -- ---- the others
   sound_at : (k : SenderKey) → (k ≡ d → ⊥) → (e : ℕ) (v : Addr × TokenBucket) → IsSoundAt w k e v → IsSoundAt begun k e v
   sound_at k other e v s = record { hop = s.hop; there = s.there; to = s.to; from = s.from; live = live_kept k v.1 other s.live }
@@ -162,7 +144,7 @@ module _ (q n : ℕ) (d : SenderKey) (w : World) (start : HasItsPaths q w) (send
   sound_begun : (k : SenderKey) → (k ≡ d → ⊥) → AreSoundOf begun k
   sound_begun k other = record {
     facts = λ m g x b h.
-        let f = path_before m g k x b h in
+        let f = path_before q n call w m g k x b h in
         let s = start.sound.facts m f.0 k x f.1 f.2 in
         record { end = s.end; at = s.at; sound = sound_at k other s.end (x.hop.addr, x.tspec) s.sound };
     items = λ y m t i spelt session sender in_way.
@@ -175,25 +157,15 @@ module _ (q n : ℕ) (d : SenderKey) (w : World) (start : HasItsPaths q w) (send
         (sent_is_sound q begun start.bounds.net y m k.1 t
         (λ a g z b h.
         let other' : (m.session, k.1) ≡ d → ⊥ = (λ e. other (sym same ∙ e)) in
-        let f = path_before a g (m.session, k.1) z b h in
+        let f = path_before q n call w a g (m.session, k.1) z b h in
         let s = start.sound.facts a f.0 (m.session, k.1) z f.1 f.2 in
         record { end = s.end; at = s.at; sound = sound_at (m.session, k.1) other' s.end (z.hop.addr, z.tspec) s.sound })
         (path_sent_by_call q w n call start.bounds y new.0 m new.1 spelt) sender in_way'))
-        (in_flight_then y i);
+        (in_flight_then q n call w y i);
   }
 
   complete_begun : ArePathsComplete begun
-  complete_begun k t h live there =
-      let a = start.complete k t h (live_source k t live) there in
-      record {
-        facts = (outcome q (At n call) w (node_of w.net.ends h.to) a.facts).facts;
-        node = facts_after_made q (At n call) w (node_of w.net.ends h.to) a.facts a.node;
-        path = a.path;
-        there = ap (λ (z : _). get z k) (paths_same (node_of w.net.ends h.to) a.facts) ∙ a.there;
-        iface = a.iface;
-        hop = a.hop;
-        tspec = a.tspec;
-      }
+  complete_begun k t h live there = path_on q n call w k t h (start.complete k t h (live_source k t live) there)
 
   known_still : (m : ℕ) (f : Facts) (k : SenderKey) → (k ≡ d → ⊥) → slice_get w.nodes m ≡ Some f → has (known f k.0) k.1 ≡ true → has (known (outcome q (At n call) w m f).facts k.0) k.1 ≡ true
   known_still m f k other a sure = by (get f.senders k) refl
@@ -204,7 +176,7 @@ module _ (q n : ℕ) (d : SenderKey) (w : World) (start : HasItsPaths q w) (send
           ∙ ap (λ (c : Bool). c || has (outcome q (At n call) w m f).facts.paths k) (ap (λ (z : Option TokenBucket). is_some z) (sender_kept m f k t other e))
       by None e =
           let path : has f.paths k ≡ true = sym (ap (λ (z : Option TokenBucket). is_some z || has f.paths k) e) ∙ sym (has-known f k.0 k.1) ∙ sure in
-          let some : has (outcome q (At n call) w m f).facts.paths k ≡ true = ap (λ (z : _). has z k) (paths_same m f) ∙ path in
+          let some : has (outcome q (At n call) w m f).facts.paths k ≡ true = ap (λ (z : _). has z k) (paths_same q n call w m f) ∙ path in
           has-known (outcome q (At n call) w m f).facts k.0 k.1 ∙ ap (λ (c : Bool). has (outcome q (At n call) w m f).facts.senders k || c) some
           ∙ or_true (has (outcome q (At n call) w m f).facts.senders k)
 
@@ -229,7 +201,7 @@ module _ (q n : ℕ) (d : SenderKey) (w : World) (start : HasItsPaths q w) (send
       absurd (⊎_elim
       (λ (away : is_way p o.key ≡ false). let out : is_way p o.key ≡ true = and_made _ _ (lt-ltb o.key.iface _ o.there) o.way in let bad : true ≡ false = sym out ∙ away in cc)
       (λ (lost : has (known (facts_then p p c (Call call) r.facts) o.key.session) o.key.sender ≡ false). let bad : true ≡ false = sym knows ∙ lost in cc) o.gone)))
-      (in_flight_then y i)
+      (in_flight_then q n call w y i)
 
   -- the root has no path of it
   no_path_at_root : (f : Facts) (x : PathState) → slice_get w.nodes n ≡ Some f → get f.paths d ≡ Some x → ⊥
@@ -266,7 +238,7 @@ module _ (q n : ℕ) (d : SenderKey) (w : World) (start : HasItsPaths q w) (send
   -- ---- what is left of it
   left_begun : (m : ℕ) (g : Facts) (x : PathState) → slice_get begun.nodes m ≡ Some g → get g.paths d ≡ Some x → IsLeftAt begun m d x
   left_begun m g x b e =
-      let f = path_before m g d x b e in
+      let f = path_before q n call w m g d x b e in
       let s = start.sound.facts m f.0 d x f.1 f.2 in
       let of = (interfaces_are_ends w.net).iface_of_end m x.iface s.end s.at in
       record {
@@ -287,7 +259,7 @@ module _ (q n : ℕ) (d : SenderKey) (w : World) (start : HasItsPaths q w) (send
   -- the node of the host knows it no more
   lost : has (known (outcome q (At n call) w n sends.facts).facts d.0) d.1 ≡ false
   lost =
-      let path : get (outcome q (At n call) w n sends.facts).facts.paths d ≡ None = ap (λ (z : _). get z d) (paths_same n sends.facts) ∙ nothing_at_root in
+      let path : get (outcome q (At n call) w n sends.facts).facts.paths d ≡ None = ap (λ (z : _). get z d) (paths_same q n call w n sends.facts) ∙ nothing_at_root in
       has-known (outcome q (At n call) w n sends.facts).facts d.0 d.1 ∙ (λ i. is_some (dropped i) || is_some (path i))
 
   -- so it tears it down over each hop of the tree out of it
@@ -330,7 +302,7 @@ module _ (q n : ℕ) (d : SenderKey) (w : World) (start : HasItsPaths q w) (send
       let node : m ≡ from = ap (node_of w.net.ends) v.2 ∙ v.3 in
       let a = start.complete d flow.0 v.0 alive v.1 in
       let g : Facts = (outcome q (At n call) w m a.facts).facts in
-      let some : has g.paths d ≡ true = ap (λ (z : _). has z d) (paths_same m a.facts) ∙ ap (λ (z : Option PathState). is_some z) a.there in
+      let some : has g.paths d ≡ true = ap (λ (z : _). has z d) (paths_same q n call w m a.facts) ∙ ap (λ (z : Option PathState). is_some z) a.there in
       inl (record {
         facts = g;
         there = ap (λ (z : ℕ). slice_get begun.nodes z) (sym node) ∙ facts_after_made q (At n call) w m a.facts a.node;
@@ -349,12 +321,12 @@ module _ (q n : ℕ) (d : SenderKey) (w : World) (start : HasItsPaths q w) (send
         ⊎_elim (λ (old : In y w.flight). start.sound.named y m old spelt none)
         (λ (now : (b : Bool) × In (y, b) (sent q (At n call) w)).
         let p = path_sent_by_call q w n call start.bounds y now.0 m now.1 spelt in
-        let bad : Some (p.sender, p.tspec) ≡ None = sym p.of ∙ none in absurd (cc)) (in_flight_then y i);
+        let bad : Some (p.sender, p.tspec) ≡ None = sym p.of ∙ none in absurd (cc)) (in_flight_then q n call w y i);
     complete = complete_begun;
     tears = tears_begun;
     silent = λ y m t i spelt session sender.
         ⊎_elim (λ (old : In y w.flight). quiet y m t old spelt session sender) (λ (now : (b : Bool) × In (y, b) (sent q (At n call) w)). silent_sent y now.0 m t now.1 spelt session sender)
-        (in_flight_then y i);
+        (in_flight_then q n call w y i);
     left = left_begun;
     fading = λ h g x there b e. fading_begun h there;
   }
@@ -380,7 +352,7 @@ module _ (q n : ℕ) (d : SenderKey) (w : World) (start : HasItsPaths q w) (send
         to = goes_to_peers w.net (end_at w.net.ends r.node r.send.iface) e.0 r.send.dst y.end (ap (end_at w.net.ends r.node) o.iface ∙ e.1) r.to;
         deep = omega arith;
       })
-      (in_flight_then y i)
+      (in_flight_then q n call w y i)
 
 pub an_ended_sender_is_forgotten : (q n : ℕ) (d : SenderKey) (w : World) → HasItsPaths q w → SendsAt w n d → HasNoPathOf w d → AreHosts (after_drop q n d w)
     → HasItsPaths q (after_passes q (longest w.net) (after_drop q n d w))

@@ -1,5 +1,6 @@
 pub mod Deliveries
 pub mod Spreading
+pub mod Called
 pub mod Calls
 pub mod Leaving
 pub mod Fading
@@ -9,6 +10,7 @@ pub mod Growing
 pub mod Fitting
 pub mod SoundParts
 pub mod Turns
+pub mod Arriving
 pub mod Reserving
 pub mod Rising
 pub mod Wanting

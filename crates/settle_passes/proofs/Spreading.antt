@@ -26,6 +26,7 @@ use Rattle.laws_network.proofs.Known.{of_some, or_true}
 use Rattle.settle_paths.proofs.LiveSenders.{senders_found}
 use Rattle.settle_passes.specs.Passes.{AreCompleteTo, AreSpreading, IsPathOver, Knows, after_passes}
 use Rattle.settle_passes.proofs.Deliveries.{known_self, learnt, live_next, path_at_next, same_next, sound_next, spreading_next}
+use Rattle.settle_passes.specs.Calls.{HasItsPaths}
 
 pub run_then : (q : ℕ) (ss ts : List Step) (w : World) → run (machine q) (ss ++ ts) w ≡ run (machine q) ts (run (machine q) ss w)
 run_then q [] ts w = refl
@@ -160,6 +161,11 @@ paths_spread_one_hop_a_pass q n w s =
     let r = passes_on q n 0 w s (complete_0 q w s) in
     let sum : 0 + n ≡ n = omega arith in
     (r.0, subst (λ (z : ℕ). AreCompleteTo z (after_passes q n w)) sum r.1)
+
+-- paths that are there spread
+pub there_spread : (q : ℕ) (w : World) → HasItsPaths q w → AreSpreading q w
+there_spread q w s =
+    record { bounds = s.bounds; hosts = s.hosts; sound = s.sound; no_tear = s.no_tear; offered = λ k t h live there knows. inl (s.complete k t h live there) }
 
 -- the network stays
 same_net : (q n : ℕ) (w : World) → AreSpreading q w → (after_passes q n w).net ≡ w.net

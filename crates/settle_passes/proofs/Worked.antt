@@ -21,6 +21,7 @@ use Rattle.settle_paths.proofs.Example.{a_pair_meets_the_premises}
 use Rattle.settle_passes.specs.Calls.{HasItsPaths}
 use Rattle.settle_passes.proofs.Calls.{a_new_sender_is_set_up, spreading_then}
 use Rattle.settle_passes.specs.Worked.{AConfirmationIsLate, AMovedTreeLeavesAReservation, APairForgets, APairIsSetUp, AReceiverIsServed, AStrayTearIsTaken, ATradeIsRefused, ended_world, heard_world}
+use Rattle.settle_passes.proofs.Spreading.{there_spread}
 
 -- ---- a pair of nodes in which nothing happened yet
 no_one : (n : ℕ) (f : Facts) → slice_get quiet_world.nodes n ≡ Some f → no_facts ≡ f
@@ -71,7 +72,7 @@ a_pair_is_set_up = record {
   fit = fit;
   new = λ t live. no_live (session, first) t live;
   hosts = a_pair_meets_the_premises.locals;
-  spreading = spreading_then 7500 0 (session, first) usual quiet_world start fit (λ t live. no_live (session, first) t live) a_pair_meets_the_premises.locals;
+  spreading = spreading_then 7500 0 (session, first) usual quiet_world (there_spread 7500 quiet_world start) fit (λ t live. no_live (session, first) t live) a_pair_meets_the_premises.locals;
   not_yet = a_pair_meets_the_premises.not_yet;
 }
 

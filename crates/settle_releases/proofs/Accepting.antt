@@ -69,6 +69,7 @@ use Rattle.settle_resvs.proofs.TowardNames.{parts_of_style}
 use Rattle.settle_passes.specs.Reserving.{IsKeptOver}
 use Rattle.settle_passes.proofs.Fitting.{as_before}
 use Rattle.settle_passes.proofs.Turns.{Turns, addressed_in_turn, left, moment, place, resv_in_turn}
+use Rattle.settle_passes.proofs.Growing.{HasNoLess}
 use Rattle.settle_releases.proofs.Within.{WantedMore, named_within, same_names, toward_is_at_most_what_was_wanted, AreKeptWithin}
 
 -- what nodes keep, and each unit of a Resv in flight, is at most what was wanted before
@@ -86,7 +87,76 @@ some_unit (ask.Fixed list) h = by list.rows refl h.some
     by [] e lt = let none = ap length e in absurd (omega (arith, none, lt))
     by (x ∷ xs) e lt = (fixed_unit x, to_each fixed_unit x list.rows (subst (λ (z : List (Sender × TokenBucket)). In x z) (sym e) (inl refl)))
 
--- ---- a Resv that arrives
+-- ---- a Resv that arrives where what nodes keep and ask for is within what was wanted before, which fitted, and whose names match
+module _ (q : ℕ) (s : Session) (before : List Facts) (u : World) (bounds : AreBounds q u) (wanted : (x : LocalWant) → In x (locals_of u).wants → HasNoLess (locals_of (as_before before u)).wants x)
+    (fit : SessionFits u.net (locals_of (as_before before u)) s) (within : AreResvsWithin before u) (y : Item) (m : ResvMsg) (i : In y u.flight) (spelt : y.arrival ≡ Spelt (message.Resv m))
+    (of : m.session ≡ s) (f : Facts) (at : slice_get u.nodes (node_of u.net.ends y.end) ≡ Some f)
+    (matches : (v : AskedUnit) (j : In v (asked_units m.ask)) (x : Sender) → has (within.items y m v i spelt j).names x ≡ true
+    → has (matched (config_of q u.net u.trees (node_of u.net.ends y.end)) f (asker_of (config_of q u.net u.trees (node_of u.net.ends y.end)) u.clock (iface_of u.net.ends y.end) m)) x ≡ true) where
+  abbrev locals_before : Locals
+  locals_before = locals_of (as_before before u)
+
+  abbrev node : ℕ
+  node = node_of u.net.ends y.end
+
+  abbrev config : NodeConfig
+  config = config_of q u.net u.trees node
+
+  abbrev asker : Asker
+  asker = asker_of config u.clock (iface_of u.net.ends y.end) m
+
+  placed : (v : AskedUnit) → In v (asked_units m.ask) → IsPlaced config asker f (goal_at u.net locals_before node) v
+  placed v j =
+      let x = within.items y m v i spelt j in
+      let part : Part = record { senders = x.names; flow = v.flow } in
+      record {
+        names = x.names;
+        listed = x.named;
+        some = name_some x.names x.sound.some;
+        match = λ z e. matches v j z e;
+        place = has_place (as_before before u) asker y.end v.unit part x.sound refl;
+      }
+
+  proper : IsProperAsk m.ask
+  proper = let p = (bounds.flight y i).proper in subst IsProperArrival spelt p
+
+  fits : SessionFits u.net locals_before m.session
+  fits = subst (SessionFits u.net locals_before) (sym of) fit
+
+  -- the end carries the session
+  carries : Carries u.net locals_before m.session y.end
+  carries =
+      let v = some_unit m.ask proper in
+      let x = within.items y m v.0 i spelt v.1 in
+      record { hop = x.sound.hop; there = x.sound.there; from = x.sound.from; style = ask_style m.ask; unit = v.0.unit; part = x.sound.wanted; wanted = x.sound.is }
+
+  -- someone wants something of the session in the style
+  wants : (w : LocalWant) × In w locals_before.wants × (w.session ≡ m.session) × (w.style ≡ ask_style m.ask)
+  wants =
+      let v = some_unit m.ask proper in
+      let x = within.items y m v.0 i spelt v.1 in
+      let b = want_needs (ask_style m.ask) u.net locals_before m.session x.sound.hop v.0.unit x.sound.wanted x.sound.is in
+      (b.want, b.there, b.session, b.style)
+
+  can_be_taken : CanBeTaken config u.clock (iface_of u.net.ends y.end) m f (goal_at u.net locals_before node)
+  can_be_taken = record {
+    proper = proper;
+    lines_held = session_can_be_held q u.net u.trees locals_before m.session y.end bounds.net fits carries;
+    there = sound_under (as_before before u) node f (λ st k r h. within.facts st node f k r at h);
+    units = placed;
+    resv_style = λ st k r h same.
+        let x = (within.facts st node f k r at h).sound in
+        let b = want_needs st u.net locals_before k.0 x.hop k.1.1 x.wanted x.is in
+        sym b.style ∙ fits.one_style b.want wants.0 b.there wants.1 (b.session ∙ same) wants.2 ∙ wants.3;
+    want_style = λ v w h.
+        let b = wanted (want_at node ((m.session, v), w)) (node_wants u node f (m.session, v) w at h) in
+        sym b.style ∙ fits.one_style b.want wants.0 b.among wants.1 b.session wants.2 ∙ wants.3;
+  }
+
+  pub taken_as_matched : IsTakenWhole config config u.clock (iface_of u.net.ends y.end) m f (goal_at u.net locals_before node)
+  taken_as_matched = what_is_accepted.whole config config u.clock u.clock (iface_of u.net.ends y.end) m f (goal_at u.net locals_before node) (bounds.facts node f at) can_be_taken
+
+-- ---- where paths are there its names match, as somebody sends of each
 module _ (q : ℕ) (s : Session) (before : List Facts) (u : World) (bounds : AreBounds q u) (hosts : AreHosts u) (sound : ArePathsSound u) (complete : ArePathsComplete u) (more : WantedMore before u)
     (within : AreResvsWithin before u) (fit : SessionFits u.net (locals_of (as_before before u)) s) (y : Item) (m : ResvMsg) (i : In y u.flight) (spelt : y.arrival ≡ Spelt (message.Resv m))
     (of : m.session ≡ s) (f : Facts) (at : slice_get u.nodes (node_of u.net.ends y.end) ≡ Some f) where
@@ -116,60 +186,15 @@ module _ (q : ℕ) (s : Session) (before : List Facts) (u : World) (bounds : Are
       (known_and_via.named_by (ask_style m.ask) (kept (goes_out here m.session (iface_of u.net.ends y.end)) (known f m.session)) x).1
       (record { sender = a.0; among = has-kept senders (goes_out here m.session (iface_of u.net.ends y.end)) (known f m.session) a.0 ∙ and_made _ _ knows out; passes = refl; name = a.3 })
 
-  placed : (v : AskedUnit) → In v (asked_units m.ask) → IsPlaced here asks f (goal_at u.net was n) v
-  placed v j =
-      let x = within.items y m v i spelt j in
-      let part : Part = record { senders = x.names; flow = v.flow } in
-      let up = part_at_most_told part x.sound.wanted x.sound.below in
-      record {
-        names = x.names;
-        listed = x.named;
-        some = name_some x.names x.sound.some;
-        match = λ z e.
-            matches x.sound.hop x.sound.from z
-            (ap (λ (ns : Names). has ns z) (sym (same_names before u more (ask_style m.ask) m.session (x.sound.hop ∷ [])))
-            ∙ want_names (ask_style m.ask) u.net was m.session x.sound.hop v.unit x.sound.wanted x.sound.is z (up.names z e));
-        place = has_place (as_before before u) asks y.end v.unit part x.sound refl;
-      }
-
-  proper : IsProperAsk m.ask
-  proper = let p = (bounds.flight y i).proper in subst IsProperArrival spelt p
-
-  fits : SessionFits u.net was m.session
-  fits = subst (SessionFits u.net was) (sym of) fit
-
-  -- the end carried the session
-  carries : Carries u.net was m.session y.end
-  carries =
-      let v = some_unit m.ask proper in
-      let x = within.items y m v.0 i spelt v.1 in
-      record { hop = x.sound.hop; there = x.sound.there; from = x.sound.from; style = ask_style m.ask; unit = v.0.unit; part = x.sound.wanted; wanted = x.sound.is }
-
-  -- someone wanted something of the session in the style
-  wants : (w : LocalWant) × In w was.wants × (w.session ≡ m.session) × (w.style ≡ ask_style m.ask)
-  wants =
-      let v = some_unit m.ask proper in
-      let x = within.items y m v.0 i spelt v.1 in
-      let b = want_needs (ask_style m.ask) u.net was m.session x.sound.hop v.0.unit x.sound.wanted x.sound.is in
-      (b.want, b.there, b.session, b.style)
-
-  can_be_taken : CanBeTaken here u.clock (iface_of u.net.ends y.end) m f (goal_at u.net was n)
-  can_be_taken = record {
-    proper = proper;
-    lines_held = session_can_be_held q u.net u.trees was m.session y.end bounds.net fits carries;
-    there = sound_under (as_before before u) n f (λ st k r h. within.facts st n f k r at h);
-    units = placed;
-    resv_style = λ st k r h same.
-        let x = (within.facts st n f k r at h).sound in
-        let b = want_needs st u.net was k.0 x.hop k.1.1 x.wanted x.is in
-        sym b.style ∙ fits.one_style b.want wants.0 b.there wants.1 (b.session ∙ same) wants.2 ∙ wants.3;
-    want_style = λ v w h.
-        let b = more.wants (want_at n ((m.session, v), w)) (node_wants u n f (m.session, v) w at h) in
-        sym b.style ∙ fits.one_style b.want wants.0 b.among wants.1 b.session wants.2 ∙ wants.3;
-  }
-
   pub taken_within : IsTakenWhole here here u.clock (iface_of u.net.ends y.end) m f (goal_at u.net was n)
-  taken_within = what_is_accepted.whole here here u.clock u.clock (iface_of u.net.ends y.end) m f (goal_at u.net was n) (bounds.facts n f at) can_be_taken
+  taken_within =
+      taken_as_matched q s before u bounds more.wants fit within y m i spelt of f at
+      (λ v j z e.
+      let x = within.items y m v i spelt j in
+      let up = part_at_most_told (record { senders = x.names; flow = v.flow }) x.sound.wanted x.sound.below in
+      matches x.sound.hop x.sound.from z
+      (ap (λ (ns : Names). has ns z) (sym (same_names before u more (ask_style m.ask) m.session (x.sound.hop ∷ [])))
+      ∙ want_names (ask_style m.ask) u.net was m.session x.sound.hop v.unit x.sound.wanted x.sound.is z (up.names z e)))
 
 -- ---- a step by which a node follows its rule at most, without time going by
 module _ (q : ℕ) (t : Step) (u : World) (bounds : AreBounds q u) (turns : (n : ℕ) (f : Facts) → slice_get u.nodes n ≡ Some f → (outcome q t u n f ≡ still f) ⊎ Turns q t u n f) where

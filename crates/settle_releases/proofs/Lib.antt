@@ -4,6 +4,7 @@ pub mod Accepting
 pub mod Tears
 pub mod TakenBack
 pub mod Receding
+pub mod Sinking
 pub mod Falling
 pub mod Releasing
 pub mod Silence

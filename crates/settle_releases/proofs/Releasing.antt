@@ -1,80 +1,56 @@
 -- A receiver wants less, or nothing any more: its node says so at once, and all else stays. And what comes of it in a settled network.
-use Rattle.std.proofs.Common.{◌≡◌, ℕ, suc, ◌+◌, ◌≤◌, List, [], ◌∷◌, ◌++◌, length, Bool, true, false, cond, Option, None, Some, ◌⊎◌, inl, inr, ⊎_elim, arith, sym, refl, ap, subst, ◌∙◌, append_assoc}
-use Rattle.std.specs.Prelude.{slice_get, ◌||◌, map as each}
-use Rattle.std.specs.List.{filter}
+use Rattle.std.proofs.Common.{◌≡◌, ℕ, ◌+◌, List, [], ◌∷◌, ◌++◌, Bool, true, false, Option, None, Some, ◌⊎◌, inl, inr, ⊎_elim, arith, sym, refl, ap, subst, ◌∙◌, append_assoc}
+use Rattle.std.specs.Prelude.{slice_get}
 use Rattle.std.specs.Ordering.{eq_by_cmp}
-use Rattle.std.proofs.lemmas.Bool.{lt-ltb}
-use Rattle.rsvp_base.specs.declared.addr.Addr.{Addr}
 use Rattle.rsvp_base.specs.declared.part.Part.{Part}
-use Rattle.rsvp_base.specs.declared.session.Sender.{Sender}
 use Rattle.rsvp_base.specs.declared.session.Session.{Session}
 use Rattle.rsvp_base.specs.declared.style.StyleKind.{StyleKind}
-use Rattle.rsvp_base.specs.declared.style.StyleKind.TheVariants.{Wild, Fixed, Shared}
-use Rattle.rsvp_base.specs.declared.style.Unit.TheVariants.{One, Of}
 use Rattle.rsvp_base.specs.Members.{In}
 use Rattle.rsvp_base.specs.Orders.{Names, sessions, styles}
-use Rattle.rsvp_base.specs.Sets.{Set, set_of}
-use Rattle.rsvp_base.specs.Table.{Table, empty, get, has, keys}
+use Rattle.rsvp_base.specs.Sets.{Set}
+use Rattle.rsvp_base.specs.Table.{get, has}
 use Rattle.rsvp_base.specs.TokenBucket.{IsSound, TokenBucket}
-use Rattle.rsvp_base.proofs.Members.{in_append, in_each}
-use Rattle.rsvp_base.proofs.SetLaws.{and_made}
 use Rattle.rsvp_base.proofs.Tables.{either, tied_same, tied_self}
-use Rattle.rsvp_messages.specs.declared.message.Message.TheVariants as message
-use Rattle.rsvp_messages.specs.Units.{ask_style, only}
+use Rattle.rsvp_messages.specs.Units.{ask_style}
 use Rattle.style_rules.specs.Lines.{LineKey}
 use Rattle.style_rules.specs.Merge.{PartTable}
 use Rattle.style_rules.specs.PartLaws.{part_at_most_itself, part_at_most_along}
 use Rattle.style_rules.specs.Parts.{IsPartAtMost}
-use Rattle.laws_bounds.specs.FactLaws.{is_way}
 use Rattle.laws_bounds.proofs.Calling.{call_refusals, calls_leave}
 use Rattle.laws_bounds.proofs.Framing.{wants_then}
-use Rattle.laws_bounds.proofs.Knowing.{has-known}
-use Rattle.laws_steps.specs.BlameLaws.{IsPassedOn, IsRefusal}
-use Rattle.laws_steps.proofs.Blaming.{where_an_error_with_a_flow_comes_from}
-use Rattle.laws_steps.proofs.Framing.{left_as_it_was}
 use Rattle.router_rules.specs.declared.answers.LocalErr.{LocalErr}
-use Rattle.router_rules.specs.Calls.{advertised_with, call_refusal, unless, wanted, wants_with, SendersOf, senders_with}
-use Rattle.router_rules.specs.Facts.{Facts, PathState, ResvState, SenderKey, Want, WantKey, resvs_of, sender_keys, table_of}
-use Rattle.router_rules.specs.Inputs.{Call, Came, Local, Spelt, Wait, WantAs, DropAs, AdvertAs, QuitAll, SendAs}
-use Rattle.router_rules.specs.Known.{known, names_via}
-use Rattle.router_rules.specs.NodeConfig.{NodeConfig, own}
+use Rattle.router_rules.specs.Calls.{advertised_with, call_refusal, unless, wanted, wants_with}
+use Rattle.router_rules.specs.Facts.{Facts, ResvState, Want, WantKey, resvs_of, sender_keys, table_of}
+use Rattle.router_rules.specs.Inputs.{Call, Local, WantAs, DropAs, AdvertAs, QuitAll, SendAs}
+use Rattle.router_rules.specs.Known.{names_via}
+use Rattle.router_rules.specs.NodeConfig.{NodeConfig}
 use Rattle.router_rules.specs.Requests.{toward}
 use Rattle.router_rules.specs.Rule.{Outcome}
-use Rattle.router_rules.specs.Steps.{IsFitList, facts_then, node_step, IsFitCall}
+use Rattle.router_rules.specs.Steps.{IsFitList, IsFitCall}
 use Rattle.tree_model.specs.declared.hops.LinkHop.{LinkHop}
 use Rattle.tree_model.specs.Goals.{addr_of}
 use Rattle.tree_model.specs.Networks.{iface_of, node_of, Net}
 use Rattle.tree_model.specs.Ranks.{longest}
 use Rattle.tree_model.specs.Trees.{hops_of}
-use Rattle.tree_model.specs.Wants.{of_session, want}
-use Rattle.tree_model.specs.declared.locals.LocalSender.{LocalSender}
+use Rattle.tree_model.specs.Wants.{want}
 use Rattle.tree_model.specs.declared.locals.LocalWant.{LocalWant}
-use Rattle.tree_model.proofs.Following.{number_same}
 use Rattle.tree_model.proofs.RankLaws.{rank_falls}
-use Rattle.network_model.specs.Bounds.{AreBounds, AreHosts, IsStart}
-use Rattle.network_model.specs.Locals.{IsLive, locals_of, sender_at, senders_from, want_at}
-use Rattle.network_model.specs.Sound.{ArePathsComplete, ArePathsSound, IsPathAt, IsSoundAt, IsSoundPath}
-use Rattle.network_model.specs.Steps.{At, facts_from, ms_of, outcome, sent, still, step}
+use Rattle.network_model.specs.Bounds.{IsStart}
+use Rattle.network_model.specs.Locals.{locals_of, want_at}
+use Rattle.network_model.specs.Steps.{At, ms_of, outcome, sent, still, step}
 use Rattle.network_model.specs.Worlds.{Item, World, config_of}
-use Rattle.network_model.proofs.NodeLocals.{is_live, node_wants, want_of_node}
+use Rattle.network_model.proofs.NodeLocals.{node_wants, want_of_node}
 use Rattle.network_model.proofs.Stepping.{facts_after_found, facts_after_made}
-use Rattle.laws_network.specs.SpeakingLaws.{IsOfGoneOffer}
-use Rattle.laws_network.proofs.Keeping.{each_step_keeps_a_world_within_bounds}
-use Rattle.laws_network.proofs.Speaking.{why_a_path_tear_is_sent}
-use Rattle.settle_paths.proofs.LiveSenders.{senders_found}
 use Rattle.settle_resvs.specs.Said.{HopKey, hop_over, lane_of, resv_key}
-use Rattle.settle_resvs.specs.Sessions.{HasNoFlowErrorOf, IsFreeOfBlockadesOf}
 use Rattle.settle_resvs.specs.SoftResvs.{line_key_of, resv_at}
 use Rattle.settle_resvs.proofs.ExactResvs.{toward_at}
 use Rattle.settle_resvs.proofs.SoftResvs.{resv_made, resv_found}
 use Rattle.settle_resvs.proofs.WantStyles.{want_parts}
 use Rattle.settle_passes.specs.Calls.{HasItsPaths}
-use Rattle.settle_passes.specs.Passes.{HasNoPathTear, after_passes}
-use Rattle.settle_passes.specs.Reserving.{AllAsk, AreAskedFor, HasReserved, IsAskedLast, IsKeptOver, IsReserving, after_want}
-use Rattle.settle_passes.proofs.Calls.{IsCalled, called, path_sent_by_call, sent_by_call}
-use Rattle.settle_passes.proofs.Deliveries.{sent_is_sound}
+use Rattle.settle_passes.specs.Passes.{after_passes}
+use Rattle.settle_passes.specs.Reserving.{HasReserved, IsKeptOver, IsReserving, after_want}
 use Rattle.settle_passes.proofs.Fitting.{as_before}
-use Rattle.settle_passes.proofs.Reserving.{all_append, last_before, ready}
+use Rattle.settle_passes.proofs.Reserving.{ready}
 use Rattle.settle_passes.proofs.Turns.{Turns, addressed_in_turn, news}
 use Rattle.settle_resvs.proofs.Accepting.{fits_again}
 use Rattle.settle_network.specs.Settled.{HasSettled}
@@ -84,27 +60,18 @@ use Rattle.settle_paths.specs.PreviousHops.{IsPrevious}
 use Rattle.settle_resvs.proofs.SoundResvs.{part_again}
 use Rattle.settle_passes.proofs.Growing.{HasNoLess}
 use Rattle.settle_passes.proofs.Serving.{settled_again, settled_is_reserved}
+use Rattle.settle_passes.proofs.Called.{IsCalled, called, free_then, in_flight_then, no_error_then, paths_then, resvs_same, senders_then, spares_senders, turns}
+use Rattle.settle_passes.proofs.Wanting.{wanted_told}
+use Rattle.settle_passes.proofs.Arriving.{asked_then}
 use Rattle.settle_releases.specs.Releases.{AsksNoMore, after_quit, after_quits}
 use Rattle.settle_releases.proofs.Within.{WantedMore, same_names, AreKeptWithin}
 use Rattle.settle_releases.proofs.Fitting.{less_fits}
 use Rattle.settle_releases.proofs.Accepting.{AreResvsWithin, within_after}
 use Rattle.settle_releases.proofs.TakenBack.{AllWithin, AreTakenBack, ComesWithin, IsForgotten, IsHeldWithin, IsTornLater, IsWithinLast, NoneAsks}
-use Rattle.settle_releases.proofs.TakenBack.{asked_after, comes_within, gone_before_or_now, none_append, none_asks, torn_later}
+use Rattle.settle_releases.proofs.TakenBack.{comes_within, gone_before_or_now, none_append, none_asks, torn_later}
 use Rattle.settle_releases.proofs.Receding.{IsReceding}
 use Rattle.settle_releases.proofs.Falling.{reservations_recede, sound_where_reserved}
 use Rattle.laws_network.specs.Known.{IsSameNet}
-
-pub unless_same : {E X : Type 0} (o : Option E) (x : X) → unless o x x ≡ x
-unless_same None x = refl
-unless_same (Some e) x = refl
-
--- a call that speaks of no sender leaves them
-pub senders_left : (l : Local) → calls_on_senders l ≡ false → (t : SendersOf) → senders_with l t ≡ t
-senders_left (SendAs s x tspec) e t = absurd (cc)
-senders_left (DropAs s x) e t = absurd (cc)
-senders_left (WantAs s st names flow mark) e t = refl
-senders_left (AdvertAs s x) e t = refl
-senders_left (QuitAll s) e t = refl
 
 -- nor does one that speaks of no advertised sender change which are advertised
 pub advertised_left : (l : Local) → calls_on_advertised l ≡ false → (t : Set sender_keys) → advertised_with l t ≡ t
@@ -113,18 +80,6 @@ advertised_left (DropAs s x) e t = absurd (cc)
 advertised_left (AdvertAs s x) e t = absurd (cc)
 advertised_left (WantAs s st names flow mark) e t = refl
 advertised_left (QuitAll s) e t = refl
-
--- the wants of a call are of its session and style
-wanted_told : (s : Session) (st : StyleKind) (names : Names) (flow : TokenBucket) (mark : Bool) (k : WantKey) (x : Want) → In (k, x) (wanted s st names flow mark) → (k.0 ≡ s) × (x.style ≡ st)
-wanted_told s Wild names flow mark k x i =
-    ⊎_elim (λ (e : (k, x) ≡ ((s, One), record { style = Wild; part = record { senders = empty; flow = flow }; confirm = mark })).
-    (ap (λ (z : WantKey × Want). z.0.0) e, ap (λ (z : WantKey × Want). z.1.style) e)) (λ (no : ⊥). absurd no) i
-wanted_told s Fixed names flow mark k x i =
-    let r = in_each (λ (y : Sender). ((s, Of y), record { style = Fixed; part = record { senders = only y; flow = flow }; confirm = mark })) (k, x) (keys names) i in
-    (ap (λ (z : WantKey × Want). z.0.0) r.2, ap (λ (z : WantKey × Want). z.1.style) r.2)
-wanted_told s Shared names flow mark k x i =
-    ⊎_elim (λ (e : (k, x) ≡ ((s, One), record { style = Shared; part = record { senders = names; flow = flow }; confirm = mark })).
-    (ap (λ (z : WantKey × Want). z.0.0) e, ap (λ (z : WantKey × Want). z.1.style) e)) (λ (no : ⊥). absurd no) i
 
 -- a want that was there in its place, of its style and no less
 pub record WasWanted (f : Facts) (k : WantKey) (x : Want) : Type 0 where
@@ -138,152 +93,11 @@ module _ (q n : ℕ) (call : Local) (w : World) (start : HasItsPaths q w) (fit :
   abbrev asked : World
   asked = step q (At n call) w
 
-  bounds_then : AreBounds q asked
-  bounds_then = each_step_keeps_a_world_within_bounds q w (At n call) fit start.bounds
+  turned : (m : ℕ) (f : Facts) → slice_get w.nodes m ≡ Some f → (outcome q (At n call) w m f ≡ still f) ⊎ Turns q (At n call) w m f
+  turned = turns q n call w
 
-  pub turns : (m : ℕ) (f : Facts) → slice_get w.nodes m ≡ Some f → (outcome q (At n call) w m f ≡ still f) ⊎ Turns q (At n call) w m f
-  turns m f at =
-      ⊎_elim (λ (z : outcome q (At n call) w m f ≡ still f). inl z)
-      (λ (h : IsCalled q w n call m f).
-      inr (record {
-        input = Call call;
-        came = ap (λ (b : Bool). cond b (Some (Call call)) None) (number_same n m h.node);
-        loud = refl;
-        timeless = λ ms word e. let bad : Call call ≡ Wait ms word = e in cc;
-        is = h.is;
-      }))
-      (called q w n call m f)
-
-  -- ---- what is left at each node
-  senders_same : (m : ℕ) (f : Facts) → (outcome q (At n call) w m f).facts.senders ≡ f.senders
-  senders_same m f =
-      ⊎_elim (λ (h : outcome q (At n call) w m f ≡ still f). ap (λ (o : Outcome). o.facts.senders) h)
-      (λ (h : IsCalled q w n call m f).
-      ap (λ (o : Outcome). o.facts.senders) h.is
-      ∙ ap (λ (t : Table sender_keys TokenBucket). unless (call_refusal (config_of q w.net w.trees m) call f) t f.senders) (senders_left call spares f.senders)
-      ∙ unless_same (call_refusal (config_of q w.net w.trees m) call f) f.senders)
-      (called q w n call m f)
-
-  paths_same : (m : ℕ) (f : Facts) → (outcome q (At n call) w m f).facts.paths ≡ f.paths
-  paths_same m f =
-      ⊎_elim (λ (h : outcome q (At n call) w m f ≡ still f). ap (λ (o : Outcome). o.facts.paths) h) (λ (h : IsCalled q w n call m f). ap (λ (o : Outcome). o.facts.paths) h.is) (called q w n call m f)
-
-  walls_same : (m : ℕ) (f : Facts) → (outcome q (At n call) w m f).facts.walls ≡ f.walls
-  walls_same m f =
-      ⊎_elim (λ (h : outcome q (At n call) w m f ≡ still f). ap (λ (o : Outcome). o.facts.walls) h) (λ (h : IsCalled q w n call m f). ap (λ (o : Outcome). o.facts.walls) h.is) (called q w n call m f)
-
-  known_on : (m : ℕ) (f : Facts) (s : Session) (x : Sender) → slice_get w.nodes m ≡ Some f → has (known f s) x ≡ true → has (known (outcome q (At n call) w m f).facts s) x ≡ true
-  known_on m f s x at sure =
-      has-known (outcome q (At n call) w m f).facts s x
-      ∙ (λ i. has (senders_same m f i) (s, x) || has (paths_same m f i) (s, x)) ∙ sym (has-known f s x) ∙ sure
-
-  -- ---- what hosts send is the same
-  same_from : (m : ℕ) (fs : List Facts) → senders_from m (facts_from q (At n call) w m fs) ≡ senders_from m fs
-  same_from m [] = refl
-  same_from m (f ∷ fs) = λ i. each (sender_at m) (keys (senders_same m f i)) ++ same_from (suc m) fs i
-
-  locals_same : (locals_of w).senders ≡ (locals_of asked).senders
-  locals_same = sym (same_from 0 w.nodes)
-
-  hosts : AreHosts asked
-  hosts = record {
-    placed = λ m g k t at h.
-        let f = facts_after_found q (At n call) w m g at in
-        start.hosts.placed m f.0 k t f.1 (ap (λ (z : Table sender_keys TokenBucket). get z k) (sym (senders_same m f.0) ∙ ap (λ (z : Facts). z.senders) (sym f.2)) ∙ h);
-    groups = λ m g k t at h.
-        let f = facts_after_found q (At n call) w m g at in
-        start.hosts.groups m f.0 k t f.1 (ap (λ (z : Table sender_keys TokenBucket). get z k) (sym (senders_same m f.0) ∙ ap (λ (z : Facts). z.senders) (sym f.2)) ∙ h);
-    few_senders = λ s. subst (λ (xs : List LocalSender). length (each (λ (x : LocalSender). x.sender) (filter (of_session s) xs)) ≤ 16) locals_same (start.hosts.few_senders s);
-    few_sessions = subst (λ (xs : List LocalSender). length (keys (set_of {o = sessions} (each (λ (x : LocalSender). x.session) xs))) ≤ 32) locals_same start.hosts.few_sessions;
-  }
-
-  -- ---- who is live: who was
-  live_on : (k : SenderKey) (t : TokenBucket) → IsLive w k t → IsLive asked k t
-  live_on k t l =
-      let f = senders_found w l.node l.senders l.at in
-      is_live asked l.node (outcome q (At n call) w l.node f.0).facts k t (facts_after_made q (At n call) w l.node f.0 f.1)
-      (ap (λ (z : Table sender_keys TokenBucket). get z k) (senders_same l.node f.0 ∙ f.2) ∙ l.sends)
-
-  live_back : (k : SenderKey) (t : TokenBucket) → IsLive asked k t → IsLive w k t
-  live_back k t l =
-      let g = senders_found asked l.node l.senders l.at in
-      let f = facts_after_found q (At n call) w l.node g.0 g.1 in
-      is_live w l.node f.0 k t f.1 (ap (λ (z : Table sender_keys TokenBucket). get z k) (sym (senders_same l.node f.0) ∙ ap (λ (z : Facts). z.senders) (sym f.2) ∙ g.2) ∙ l.sends)
-
-  -- ---- paths are sound and complete still, and nothing is torn down
-  sound_at : (k : SenderKey) (e : ℕ) (v : Addr × TokenBucket) → IsSoundAt w k e v → IsSoundAt asked k e v
-  sound_at k e v s = record { hop = s.hop; there = s.there; to = s.to; from = s.from; live = live_on k v.1 s.live }
-
-  sound_facts : (m : ℕ) (g : Facts) (k : SenderKey) (x : PathState) → slice_get asked.nodes m ≡ Some g → get g.paths k ≡ Some x → IsSoundPath asked m k x
-  sound_facts m g k x b h =
-      let f = facts_after_found q (At n call) w m g b in
-      let s = start.sound.facts m f.0 k x f.1 (sym (ap (λ (z : _). get z k) (ap (λ (z : Facts). z.paths) f.2 ∙ paths_same m f.0)) ∙ h) in
-      record { end = s.end; at = s.at; sound = sound_at k s.end (x.hop.addr, x.tspec) s.sound }
-
-  -- what is in flight was there, or is sent by the call
-  pub in_flight_then : (y : Item) → In y asked.flight → In y w.flight ⊎ ((b : Bool) × In (y, b) (sent q (At n call) w))
-  in_flight_then y i =
-      ⊎_elim (λ (old : In y w.flight). inl old)
-      (λ (j : In y (each (λ (z : Item × Bool). z.0) (sent q (At n call) w))).
-      let r = in_each (λ (z : Item × Bool). z.0) y (sent q (At n call) w) j in
-      inr (r.0.1, subst (λ (z : Item). In (z, r.0.1) (sent q (At n call) w)) (sym r.2) r.1))
-      (in_append y w.flight (each (λ (z : Item × Bool). z.0) (sent q (At n call) w)) i)
-
-  sound_then : ArePathsSound asked
-  sound_then = record {
-    facts = λ m g k x b h. sound_facts m g k x b h;
-    items = λ y m x t i spelt sender way.
-        ⊎_elim (λ (old : In y w.flight). sound_at (m.session, x) y.end (m.hop.addr, t) (start.sound.items y m x t old spelt sender way))
-        (λ (now : (b : Bool) × In (y, b) (sent q (At n call) w)).
-        sent_is_sound q asked start.bounds.net y m x t (λ a g z b h. sound_facts a g (m.session, x) z b h)
-        (path_sent_by_call q w n call start.bounds y now.0 m now.1 spelt) sender way) (in_flight_then y i);
-    named = λ y m i spelt none.
-        ⊎_elim (λ (old : In y w.flight). start.sound.named y m old spelt none)
-        (λ (now : (b : Bool) × In (y, b) (sent q (At n call) w)).
-        let p = path_sent_by_call q w n call start.bounds y now.0 m now.1 spelt in
-        let no : Some (p.sender, p.tspec) ≡ None = sym p.of ∙ none in absurd (cc)) (in_flight_then y i);
-  }
-
-  path_on : (k : SenderKey) (t : TokenBucket) (h : LinkHop) → IsPathAt w k t h → IsPathAt asked k t h
-  path_on k t h a = record {
-    facts = (outcome q (At n call) w (node_of w.net.ends h.to) a.facts).facts;
-    node = facts_after_made q (At n call) w (node_of w.net.ends h.to) a.facts a.node;
-    path = a.path;
-    there = ap (λ (z : _). get z k) (paths_same (node_of w.net.ends h.to) a.facts) ∙ a.there;
-    iface = a.iface;
-    hop = a.hop;
-    tspec = a.tspec;
-  }
-
-  no_tear_then : HasNoPathTear asked
-  no_tear_then y m i spelt =
-      ⊎_elim (λ (old : In y w.flight). start.no_tear y m old spelt)
-      (λ (now : (b : Bool) × In (y, b) (sent q (At n call) w)).
-      let r = sent_by_call q w n call y now.0 (message.PathTear m) now.1 spelt in
-      let p : NodeConfig = config_of q w.net w.trees r.node in
-      let d : ℕ = w.clock + ms_of (At n call) in
-      let o : IsOfGoneOffer p p r.facts (facts_then p p d (Call call) r.facts) r.send m =
-      why_a_path_tear_is_sent (node_step p p w.clock d (Call call) r.facts) (start.bounds.facts r.node r.facts r.there) r.send m r.sent r.says in
-      let yes : has (known (facts_then p p d (Call call) r.facts) o.key.session) o.key.sender ≡ true =
-      ap (λ (z : Outcome). has (known z.facts o.key.session) o.key.sender) (sym r.by.is) ∙ known_on r.node r.facts o.key.session o.key.sender r.there o.known_before in
-      ⊎_elim
-      (λ (away : is_way p o.key ≡ false). let way : is_way p o.key ≡ true = and_made _ _ (lt-ltb o.key.iface (length p.ifaces) o.there) o.way in let bad : true ≡ false = sym way ∙ away in absurd (cc))
-      (λ (gone : has (known (facts_then p p d (Call call) r.facts) o.key.session) o.key.sender ≡ false). let bad : true ≡ false = sym yes ∙ gone in absurd (cc)) o.gone)
-      (in_flight_then y i)
-
-  complete_then : ArePathsComplete asked
-  complete_then k t h live there = path_on k t h (start.complete k t h (live_back k t live) there)
-
-  paths_then : HasItsPaths q asked
-  paths_then = record { bounds = bounds_then; hosts = hosts; sound = sound_then; complete = complete_then; no_tear = no_tear_then }
-
-  resvs_same : (m : ℕ) (f : Facts) → slice_get w.nodes m ≡ Some f → (outcome q (At n call) w m f).facts.resvs ≡ f.resvs
-  resvs_same m f at =
-      ⊎_elim (λ (h : outcome q (At n call) w m f ≡ still f). ap (λ (o : Outcome). o.facts.resvs) h)
-      (λ (h : IsCalled q w n call m f).
-      let p : NodeConfig = config_of q w.net w.trees m in
-      ap (λ (o : Outcome). o.facts.resvs) h.is ∙ left_as_it_was.resvs_whole (node_step p p w.clock (w.clock + ms_of (At n call)) (Call call) f) (start.bounds.facts m f at) refl spares refl)
-      (called q w n call m f)
+  pub paths : HasItsPaths q asked
+  paths = paths_then q n call w spares fit start
 
   -- ---- where the call asks for no more, all wants do
   module _ (fewer : (f : Facts) → slice_get w.nodes n ≡ Some f → call_refusal (config_of q w.net w.trees n) call f ≡ None
@@ -324,13 +138,14 @@ module _ (q n : ℕ) (call : Local) (w : World) (start : HasItsPaths q w) (fit :
     stands_on : (m : ℕ) (st : StyleKind) (key : LineKey) (x : ResvState) → resv_at w m st key ≡ Some x → resv_at asked m st key ≡ Some x
     stands_on m st key x e =
         let f = resv_found w m st key x e in
-        resv_made asked m st key (outcome q (At n call) w m f.0).facts (facts_after_made q (At n call) w m f.0 f.1) ∙ ap (λ (z : _). get (table_of st z) key) (resvs_same m f.0 f.1) ∙ f.2
+        resv_made asked m st key (outcome q (At n call) w m f.0).facts (facts_after_made q (At n call) w m f.0 f.1)
+        ∙ ap (λ (z : _). get (table_of st z) key) (resvs_same q n call w spares start.bounds m f.0 f.1) ∙ f.2
 
     stood_back : (m : ℕ) (st : StyleKind) (key : LineKey) (x : ResvState) → resv_at asked m st key ≡ Some x → resv_at w m st key ≡ Some x
     stood_back m st key x e =
         let g = resv_found asked m st key x e in
         let f = facts_after_found q (At n call) w m g.0 g.1 in
-        resv_made w m st key f.0 f.1 ∙ ap (λ (z : _). get (table_of st z) key) (sym (resvs_same m f.0 f.1) ∙ ap (λ (z : Facts). z.resvs) (sym f.2)) ∙ g.2
+        resv_made w m st key f.0 f.1 ∙ ap (λ (z : _). get (table_of st z) key) (sym (resvs_same q n call w spares start.bounds m f.0 f.1) ∙ ap (λ (z : Facts). z.resvs) (sym f.2)) ∙ g.2
 
     none_on : (m : ℕ) (st : StyleKind) (key : LineKey) → resv_at w m st key ≡ None → resv_at asked m st key ≡ None
     none_on m st key none = by (resv_at asked m st key) refl
@@ -353,7 +168,7 @@ module _ (q n : ℕ) (call : Local) (w : World) (start : HasItsPaths q w) (fit :
     module _ (s : Session) (before : List Facts) (r : IsReceding q s before w) where
       more_then : WantedMore before asked
       more_then = record {
-        senders = r.more.senders ∙ locals_same;
+        senders = r.more.senders ∙ sym (senders_then q n call w (spares_senders q n call w spares));
         parts = r.more.parts;
         wants = λ x i.
             let a = no_less x i in
@@ -372,46 +187,12 @@ module _ (q n : ℕ) (call : Local) (w : World) (start : HasItsPaths q w) (fit :
       facts_within : AreKeptWithin before asked
       facts_within st m g k x at h =
           let f = facts_after_found q (At n call) w m g at in
-          let old : get (resvs_of st f.0) k ≡ Some x = ap (λ (z : _). get (table_of st z) k) (sym (resvs_same m f.0 f.1) ∙ ap (λ (z : Facts). z.resvs) (sym f.2)) ∙ h in
+          let old : get (resvs_of st f.0) k ≡ Some x = ap (λ (z : _). get (table_of st z) k) (sym (resvs_same q n call w spares start.bounds m f.0 f.1) ∙ ap (λ (z : Facts). z.resvs) (sym f.2)) ∙ h in
           let y = r.within.facts st m f.0 k x f.1 old in
           record { end = y.end; at = y.at; sound = part_again st (as_before before w) (as_before before asked) k.0 y.end k.1.0.1 k.1.1 x.part refl refl y.sound }
 
       within_then : AreResvsWithin before asked
-      within_then = within_after q (At n call) w start.bounds turns before bounds_then sound_then more_then facts_within r.within in_flight_then
-
-      no_error_then : HasNoFlowErrorOf s asked
-      no_error_then y m i spelt of = by m.blame.flow refl
-        where
-          by : (o : Option TokenBucket) → m.blame.flow ≡ o → m.blame.flow ≡ None
-          by None e = e
-          by (Some f) e =
-              ⊎_elim (λ (old : In y w.flight). r.no_error y m old spelt of)
-              (λ (now : (b : Bool) × In (y, b) (sent q (At n call) w)).
-              let d = sent_by_call q w n call y now.0 (message.ResvErr m) now.1 spelt in
-              let p : NodeConfig = config_of q w.net w.trees d.node in
-              let clock : ℕ = w.clock + ms_of (At n call) in
-              ⊎_elim
-              (λ (x : IsRefusal p p clock (Call call) d.facts d.send). let bad : Call call ≡ Came x.at (own p x.at) (Spelt (message.Resv x.resv)) = x.came in absurd (cc))
-              (λ (x : IsPassedOn p (Call call) d.facts d.send m). let bad : Call call ≡ Came x.at (own p x.at) (Spelt (message.ResvErr x.error)) = x.came in absurd (cc))
-              (where_an_error_with_a_flow_comes_from.source (node_step p p w.clock clock (Call call) d.facts) (start.bounds.facts d.node d.facts d.there) d.send m f d.sent d.says e))
-              (in_flight_then y i)
-
-      free_then : IsFreeOfBlockadesOf s asked
-      free_then m g at t =
-          let f = facts_after_found q (At n call) w m g at in
-          ap (λ (z : Facts). get z.walls (s, t)) f.2 ∙ ap (λ (z : _). get z (s, t)) (walls_same m f.0) ∙ r.free m f.0 f.1 t
-
-      asked_then : AreAskedFor q s asked
-      asked_then k v g of there at goes =
-          let m : ℕ = node_of w.net.ends k.from in
-          let f = facts_after_found q (At n call) w m g at in
-          let goes' : get (toward (config_of q w.net w.trees m) (outcome q (At n call) w m f.0).facts (lane_of w.net k)) k.unit ≡ Some v =
-          ap (λ (z : Facts). get (toward (config_of q w.net w.trees m) z (lane_of w.net k)) k.unit) (sym f.2) ∙ goes in
-          let new : List Item = news q (At n call) w in
-          asked_after q (At n call) w start.bounds turns bounds_then sound_then k there asked w.flight v f.0 f.1 goes'
-          (λ went all_new.
-          ⊎_elim (λ (x : IsKeptOver w k v × AllAsk w.net k v w.flight). inl (kept_then k v x.0, all_append w.net k v w.flight new x.1 all_new))
-          (λ (last : IsAskedLast w.net k v w.flight). inr (last_before w.net k v w.flight new last all_new)) (r.asked k v f.0 of there f.1 went))
+      within_then = within_after q (At n call) w start.bounds turned before paths.bounds paths.sound more_then facts_within r.within (in_flight_then q n call w)
 
       -- nodes have their paths from where they had them
       via_same : (k : HopKey) → In (hop_over k) (hops_of w.net.hops k.session.group) → (f : Facts) → slice_get w.nodes (node_of w.net.ends k.from) ≡ Some f
@@ -421,7 +202,7 @@ module _ (q n : ℕ) (call : Local) (w : World) (start : HasItsPaths q w) (fit :
           let previous : IsPrevious w.net m k.session (lane_of w.net k).hop (hop_over k) = record { there = there; node = refl; iface = refl; addr = refl } in
           via_is w start.bounds.net start.sound start.complete m f at (lane_of w.net k) (hop_over k) previous
           ∙ sym (same_names before w r.more k.style k.session (hop_over k ∷ [])) ∙ same_names before asked more_then k.style k.session (hop_over k ∷ [])
-          ∙ sym (via_is asked bounds_then.net sound_then complete_then m (outcome q (At n call) w m f).facts (facts_after_made q (At n call) w m f at) (lane_of w.net k) (hop_over k) previous)
+          ∙ sym (via_is asked paths.bounds.net paths.sound paths.complete m (outcome q (At n call) w m f).facts (facts_after_made q (At n call) w m f at) (lane_of w.net k) (hop_over k) previous)
 
       taken_back_then : AreTakenBack q s asked
       taken_back_then k g of there at none =
@@ -430,8 +211,8 @@ module _ (q n : ℕ) (call : Local) (w : World) (start : HasItsPaths q w) (fit :
           let none' : get (toward (config_of q w.net w.trees m) (outcome q (At n call) w m f.0).facts (lane_of w.net k)) k.unit ≡ None =
           ap (λ (z : Facts). get (toward (config_of q w.net w.trees m) z (lane_of w.net k)) k.unit) (sym f.2) ∙ none in
           let new : List Item = news q (At n call) w in
-          let quiet : NoneAsks w.net k new = none_asks q (At n call) w start.bounds turns bounds_then sound_then k there g at none in
-          gone_before_or_now q (At n call) w start.bounds turns bounds_then sound_then k there asked f.0 f.1 none' (λ z i. ap (λ (ns : Names). has ns z) (sym (via_same k there f.0 f.1)) ∙ i)
+          let quiet : NoneAsks w.net k new = none_asks q (At n call) w start.bounds turned paths.bounds paths.sound k there g at none in
+          gone_before_or_now q (At n call) w start.bounds turned paths.bounds paths.sound k there asked f.0 f.1 none' (λ z i. ap (λ (ns : Names). has ns z) (sym (via_same k there f.0 f.1)) ∙ i)
           (λ e.
           ⊎_elim
           (λ (x : IsForgotten w k).
@@ -457,16 +238,17 @@ module _ (q n : ℕ) (call : Local) (w : World) (start : HasItsPaths q w) (fit :
 
       pub receding_then : IsReceding q s before asked
       receding_then = record {
-        paths = paths_then;
+        paths = paths;
         more = more_then;
         within = within_then;
         fit = r.fit;
-        free = free_then;
-        no_error = no_error_then;
+        free = free_then q n call w s r.free;
+        no_error = no_error_then q n call w start.bounds s r.no_error;
         addressed = λ y m i spelt.
             ⊎_elim (λ (old : In y w.flight). r.addressed y m old spelt)
-            (λ (new : (b : Bool) × In (y, b) (sent q (At n call) w)). addressed_in_turn q (At n call) w start.bounds turns bounds_then sound_then y new.0 m new.1 spelt) (in_flight_then y i);
-        asked = asked_then;
+            (λ (new : (b : Bool) × In (y, b) (sent q (At n call) w)). addressed_in_turn q (At n call) w start.bounds turned paths.bounds paths.sound y new.0 m new.1 spelt)
+            (in_flight_then q n call w y i);
+        asked = asked_then q n call w start.bounds paths.bounds paths.sound s (λ k v there x. kept_then k v x) r.asked;
         torn = taken_back_then;
       }
 

@@ -53,9 +53,9 @@ use Rattle.rsvp_messages.specs.declared.message.ResvTearMsg.{ResvTearMsg}
 use Rattle.settle_passes.proofs.Deliveries.{came_by_delivery}
 use Rattle.settle_passes.proofs.Fitting.{as_before}
 use Rattle.settle_passes.proofs.Spreading.{after_deliveries, run_then}
-use Rattle.settle_passes.proofs.Turns.{Turns, left, moment, place, sent_in_turn}
+use Rattle.settle_passes.proofs.Turns.{HaveWays, Turns, left, moment, place, sent_in_turn, ways_of}
 use Rattle.settle_passes.specs.Passes.{after_passes}
-use Rattle.settle_paths.proofs.PreviousHops.{ahead, ends_there, same_by_addr}
+use Rattle.settle_paths.proofs.PreviousHops.{ends_there, same_by_addr}
 use Rattle.settle_releases.proofs.Falling.{reservations_recede, fall}
 use Rattle.settle_releases.proofs.Receding.{IsReceding, receding_next, taken, turns}
 use Rattle.settle_resvs.specs.GoalByIface.{goal_at}
@@ -76,7 +76,7 @@ use Rattle.tree_model.specs.declared.hops.End.{End}
 use Rattle.rsvp_messages.specs.declared.message.Message.TheVariants as message
 use Rattle.router_rules.specs.declared.answers.Heard.TheVariants as heard
 use Rattle.settle_releases.proofs.TakenBack.{names_of_tear, style_of_tear}
-use Rattle.settle_releases.proofs.Releasing.{in_flight_then, quit_kept, quit_recedes, settled_recedes, some_session, turns as called_turns, unless_same, less_recedes, advertised_left, senders_left}
+use Rattle.settle_releases.proofs.Releasing.{quit_kept, quit_recedes, settled_recedes, some_session, less_recedes, advertised_left}
 use Rattle.router_rules.specs.Calls.{call_refusal, unless, wants_with, SendersOf, wanted}
 use Rattle.network_model.proofs.Quiet.{at_node_found}
 use Rattle.settle_releases.specs.Releases.{HasNoMark, after_quit, after_quits, AsksNoMore}
@@ -87,6 +87,7 @@ use Rattle.laws_bounds.proofs.Calling.{calls_leave}
 use Rattle.rsvp_base.specs.declared.style.StyleKind.{StyleKind}
 use Rattle.rsvp_base.specs.declared.style.StyleKind.TheVariants.{Fixed, Shared, Wild}
 use Rattle.settle_passes.specs.Reserving.{after_want}
+use Rattle.settle_passes.proofs.Called.{in_flight_then, senders_left, turns as called_turns, unless_same}
 
 -- ---- a node: what it makes of an input for which it tells nobody of an error and confirms nothing
 pub record IsUnanswered (p : NodeConfig) (c : ℕ) (input : Input) (f : Facts) : Type 0 where
@@ -250,9 +251,9 @@ IsPlainItem net y =
     ((m : ResvMsg) × (y.arrival ≡ Spelt (message.Resv m)) × (m.confirm ≡ None)) ⊎ ((m : ResvTearMsg) × (y.arrival ≡ Spelt (message.ResvTear m)) × IsBackOver net y m)
 
 module _ (q : ℕ) (t : Step) (u : World) (bounds : AreBounds q u) (turns : (n : ℕ) (f : Facts) → slice_get u.nodes n ≡ Some f → (outcome q t u n f ≡ still f) ⊎ Turns q t u n f)
-    (bounds' : AreBounds q (left q t u)) (sound : ArePathsSound (left q t u)) where
-  pub goes_back : (y : Item) (b : Bool) (m : ResvTearMsg) → In (y, b) (sent q t u) → y.arrival ≡ Spelt (message.ResvTear m) → IsBackOver u.net y m
-  goes_back y b m i spelt =
+    (ways : HaveWays (left q t u)) where
+  pub goes_back_by : (y : Item) (b : Bool) (m : ResvTearMsg) → In (y, b) (sent q t u) → y.arrival ≡ Spelt (message.ResvTear m) → IsBackOver u.net y m
+  goes_back_by y b m i spelt =
       let r = sent_in_turn q t u bounds turns y b (message.ResvTear m) i spelt in
       let p : NodeConfig = place q t u r.node in
       let facts : Facts = (outcome q t u r.node r.facts).facts in
@@ -262,7 +263,7 @@ module _ (q : ℕ) (t : Step) (u : World) (bounds : AreBounds q u) (turns : (n :
       let after : slice_get (left q t u).nodes r.node ≡ Some facts = facts_after_made q t u r.node r.facts r.there in
       let named = (known_and_via.all_by facts x.lane x.some.0).0 (x.via_hop x.some.0 x.some.1) in
       let comes = (known_and_via.via_by facts x.lane.session x.lane.hop named.sender).0 named.among in
-      let a = ahead (left q t u) r.node facts sound after x.lane.session x.lane.hop named.sender comes in
+      let a = ways r.node facts x.lane.session x.lane.hop named.sender after comes in
       let valid = bounds.net in
       let mine = ends_there u.net valid x.lane.session.group a.way a.previous.there in
       let e = goes_to_end u.net (end_at u.net.ends r.node r.send.iface) r.send.dst y.end r.to in
@@ -291,6 +292,12 @@ module _ (q : ℕ) (t : Step) (u : World) (bounds : AreBounds q u) (turns : (n :
         lists = ap (λ (z : ResvTearMsg). tear_names z.tear) x.is ∙ names_of_tear x.lane.style x.names;
         some = x.some;
       }
+
+-- so it does where paths are sound
+module _ (q : ℕ) (t : Step) (u : World) (bounds : AreBounds q u) (turns : (n : ℕ) (f : Facts) → slice_get u.nodes n ≡ Some f → (outcome q t u n f ≡ still f) ⊎ Turns q t u n f)
+    (bounds' : AreBounds q (left q t u)) (sound : ArePathsSound (left q t u)) where
+  pub goes_back : (y : Item) (b : Bool) (m : ResvTearMsg) → In (y, b) (sent q t u) → y.arrival ≡ Spelt (message.ResvTear m) → IsBackOver u.net y m
+  goes_back = goes_back_by q t u bounds turns (ways_of (left q t u) sound)
 
   -- what is sent by a node that answers nothing is plain
   pub plain_in_turn : ((n : ℕ) (f : Facts) → slice_get u.nodes n ≡ Some f → (h : Turns q t u n f) → IsUnanswered (place q t u n) (moment q t u) h.input f)
@@ -417,7 +424,7 @@ module _ (q n : ℕ) (call : Local) (before : List Facts) (w : World) (r : IsSil
     (marks : (m : ℕ) (f : Facts) → slice_get w.nodes m ≡ Some f → (o : Option LocalErr) (k : WantKey) (x : Want)
     → get (unless o (wants_with call f.wants) f.wants) k ≡ Some x → x.confirm ≡ false) where
   abbrev follows_then : (m : ℕ) (f : Facts) → slice_get w.nodes m ≡ Some f → (outcome q (At n call) w m f ≡ still f) ⊎ Turns q (At n call) w m f
-  follows_then = called_turns q n call w (r.receding some_session).paths fit spares
+  follows_then = called_turns q n call w
 
   quiet_then : (m : ℕ) (f : Facts) → slice_get w.nodes m ≡ Some f → (h : Turns q (At n call) w m f) → IsUnanswered (place q (At n call) w m) (moment q (At n call) w) h.input f
   quiet_then m f at h =
@@ -442,7 +449,7 @@ module _ (q n : ℕ) (call : Local) (before : List Facts) (w : World) (r : IsSil
         ⊎_elim (λ (old : In y w.flight). r.plain y old)
         (λ (new : (b : Bool) × In (y, b) (sent q (At n call) w)).
         plain_in_turn q (At n call) w (r.receding some_session).paths.bounds follows_then (recede some_session).paths.bounds (recede some_session).paths.sound quiet_then y new.0 new.1)
-        (in_flight_then q n call w (r.receding some_session).paths fit spares y i);
+        (in_flight_then q n call w y i);
     unmarked = unmarked_in_turn q (At n call) w follows_then (λ m f at h. (quiet_then m f at h).unmarked) r.unmarked;
   }
 

@@ -31,7 +31,7 @@ use Rattle.network_model.specs.Bounds.{AreBounds}
 use Rattle.network_model.specs.Sound.{ArePathsSound}
 use Rattle.network_model.specs.Steps.{outcome, sent, still, Step}
 use Rattle.network_model.specs.Worlds.{Item, World, config_of}
-use Rattle.network_model.proofs.Stepping.{copies_made, facts_after_made, sent_made}
+use Rattle.network_model.proofs.Stepping.{copies_made, sent_made}
 use Rattle.laws_network.proofs.Known.{of_some}
 use Rattle.laws_network.proofs.Standing.{own_end, some_at}
 use Rattle.settle_paths.proofs.PreviousHops.{ends_there, same_by_addr}
@@ -56,8 +56,7 @@ use Rattle.network_model.proofs.Changing.{where_a_send_goes}
 use Rattle.laws_network.proofs.Speaking.{send_made}
 use Rattle.settle_resvs.proofs.ResvSends.{over_hop}
 use Rattle.settle_resvs.proofs.TowardNames.{parts_of_style, toward_names}
-use Rattle.settle_passes.proofs.Reserving.{last_asked, last_behind}
-use Rattle.settle_passes.proofs.Turns.{IsAskedNow, Turns, addressed_in_turn, all_ask, left, moment, news, place, resv_in_turn, stays_or_asked}
+use Rattle.settle_passes.proofs.Turns.{Turns, addressed_in_turn, left, moment, news, place, resv_in_turn}
 use Rattle.style_rules.specs.CutLaws.{some_within}
 use Rattle.tree_model.specs.Wants.{names}
 use Rattle.rsvp_base.specs.Sets.{IsWithin, is_none}
@@ -293,22 +292,6 @@ module _ (q : ℕ) (t : Step) (u : World) (bounds : AreBounds q u) (turns : (n :
         less = less;
       })
       (turns asker f at)
-
-  -- ---- what goes toward the hop after the step is asked for, as it was before or by what is sent
-  pub asked_after : (w : World) (rest : List Item) (v : Part) (f : Facts) → slice_get u.nodes asker ≡ Some f → get (toward here (outcome q t u asker f).facts lane) k.unit ≡ Some v
-      → (get (toward here f lane) k.unit ≡ Some v → AllAsk u.net k v (news q t u)
-      → (IsKeptOver w k v × AllAsk u.net k v (rest ++ news q t u)) ⊎ IsAskedLast u.net k v (rest ++ news q t u))
-      → (IsKeptOver w k v × AllAsk u.net k v (rest ++ news q t u)) ⊎ IsAskedLast u.net k v (rest ++ news q t u)
-  asked_after w rest v f at goes before =
-      let g : Facts = (outcome q t u asker f).facts in
-      let new : AllAsk u.net k v (news q t u) =
-      (λ y i l.
-      let x = in_each (λ (z : Item × Bool). z.0) y (sent q t u) i in
-      all_ask q t u bounds turns bounds' sound k there g (facts_after_made q t u asker f at) v goes y x.0.1 (subst (λ (z : Item). In (z, x.0.1) (sent q t u)) (sym x.2) x.1) l) in
-      ⊎_elim (λ (stays : toward here f lane ≡ toward here g lane). before (ap (λ (z : PartTable). get z k.unit) stays ∙ goes) new)
-      (λ (now : (x : Part) → get (toward here g lane) k.unit ≡ Some x → IsAskedNow q t u bounds turns bounds' sound k there x).
-      let x = now v goes in inr (last_behind u.net k v rest (news q t u) (last_asked u.net k v (news q t u) x.item x.new x.says new)))
-      (stays_or_asked q t u bounds turns bounds' sound k there f at)
 
   -- ---- what goes toward it no more did not before either, or is torn down now
   pub gone_before_or_now : (w : World) (f : Facts) → slice_get u.nodes asker ≡ Some f → get (toward here (outcome q t u asker f).facts lane) k.unit ≡ None

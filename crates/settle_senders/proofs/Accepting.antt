@@ -2,7 +2,6 @@
 use Rattle.std.proofs.Common.{◌≡◌, ℕ, List, true, Some, sym, refl, ap, subst, ◌∙◌}
 use Rattle.std.specs.Prelude.{slice_get}
 use Rattle.rsvp_base.specs.declared.addr.Addr.{Addr}
-use Rattle.rsvp_base.specs.declared.part.Part.{Part}
 use Rattle.rsvp_base.specs.declared.session.Sender.{Sender}
 use Rattle.rsvp_base.specs.declared.session.Session.{Session}
 use Rattle.rsvp_base.specs.Members.{In}
@@ -11,13 +10,10 @@ use Rattle.rsvp_base.specs.Table.{has, kept}
 use Rattle.rsvp_base.proofs.SetLaws.{and_made, has-kept}
 use Rattle.rsvp_messages.specs.declared.message.Message.TheVariants as message
 use Rattle.rsvp_messages.specs.declared.message.ResvMsg.{ResvMsg}
-use Rattle.rsvp_messages.specs.Proper.{IsProperAsk}
 use Rattle.rsvp_messages.specs.Units.{AskedUnit, ask_style, asked_units}
-use Rattle.style_rules.specs.CutLaws.{name_some}
 use Rattle.style_rules.specs.PartLaws.{part_at_most_itself}
 use Rattle.laws_bounds.proofs.Knowing.{known_and_via}
-use Rattle.laws_steps.specs.AcceptingLaws.{CanBeTaken, IsPlaced, IsTakenWhole}
-use Rattle.laws_steps.proofs.Admitting.{what_is_accepted}
+use Rattle.laws_steps.specs.AcceptingLaws.{IsTakenWhole}
 use Rattle.router_rules.specs.Asking.{Asker, asker_of, matched}
 use Rattle.router_rules.specs.Facts.{Facts}
 use Rattle.router_rules.specs.Inputs.{Spelt}
@@ -28,20 +24,17 @@ use Rattle.tree_model.specs.Networks.{iface_of, node_of}
 use Rattle.tree_model.specs.Wants.{Locals}
 use Rattle.tree_model.proofs.Following.{in_tree}
 use Rattle.tree_model.proofs.TreeLaws.{out_told}
-use Rattle.network_model.specs.Bounds.{AreBounds, IsProperArrival}
-use Rattle.network_model.specs.Locals.{locals_of, want_at}
+use Rattle.network_model.specs.Bounds.{AreBounds}
+use Rattle.network_model.specs.Locals.{locals_of}
 use Rattle.network_model.specs.Sound.{AreResvsSound}
 use Rattle.network_model.specs.Worlds.{Item, World, config_of}
-use Rattle.network_model.proofs.NodeLocals.{node_wants}
 use Rattle.laws_network.proofs.Known.{of_some}
 use Rattle.laws_network.proofs.Standing.{goes_out_made}
 use Rattle.settle_resvs.specs.GoalByIface.{goal_at}
-use Rattle.settle_resvs.specs.Sessions.{Carries, SessionFits}
-use Rattle.settle_resvs.proofs.GoalByIface.{session_can_be_held}
+use Rattle.settle_resvs.specs.Sessions.{SessionFits}
 use Rattle.settle_resvs.proofs.SoundResvs.{part_again}
-use Rattle.settle_resvs.proofs.UnderTheGoal.{has_place, sound_under, want_needs}
 use Rattle.settle_passes.proofs.Growing.{HasNoLess}
-use Rattle.settle_releases.proofs.Accepting.{AreResvsWithin, some_unit}
+use Rattle.settle_releases.proofs.Accepting.{AreResvsWithin, taken_as_matched}
 use Rattle.settle_passes.proofs.Fitting.{as_before}
 use Rattle.settle_senders.specs.Following.{AreNamesKnown, HasSenderNamed}
 
@@ -79,56 +72,10 @@ module _ (q : ℕ) (s : Session) (before : List Facts) (u : World) (bounds : Are
         name = h.name;
       })
 
-  placed : (v : AskedUnit) → In v (asked_units m.ask) → IsPlaced here asks f (goal_at u.net was n) v
-  placed v j =
-      let x = within.items y m v i spelt j in
-      let part : Part = record { senders = x.names; flow = v.flow } in
-      record {
-        names = x.names;
-        listed = x.named;
-        some = name_some x.names x.sound.some;
-        match = λ z e. matches z (named v x.names z j x.named e);
-        place = has_place (as_before before u) asks y.end v.unit part x.sound refl;
-      }
-
-  proper : IsProperAsk m.ask
-  proper = let p = (bounds.flight y i).proper in subst IsProperArrival spelt p
-
-  fits : SessionFits u.net was m.session
-  fits = subst (SessionFits u.net was) (sym of) fit
-
-  -- the end carries the session
-  carries : Carries u.net was m.session y.end
-  carries =
-      let v = some_unit m.ask proper in
-      let x = within.items y m v.0 i spelt v.1 in
-      record { hop = x.sound.hop; there = x.sound.there; from = x.sound.from; style = ask_style m.ask; unit = v.0.unit; part = x.sound.wanted; wanted = x.sound.is }
-
-  -- someone wants something of the session in the style
-  wants : (w : LocalWant) × In w was.wants × (w.session ≡ m.session) × (w.style ≡ ask_style m.ask)
-  wants =
-      let v = some_unit m.ask proper in
-      let x = within.items y m v.0 i spelt v.1 in
-      let b = want_needs (ask_style m.ask) u.net was m.session x.sound.hop v.0.unit x.sound.wanted x.sound.is in
-      (b.want, b.there, b.session, b.style)
-
-  can_be_taken : CanBeTaken here u.clock (iface_of u.net.ends y.end) m f (goal_at u.net was n)
-  can_be_taken = record {
-    proper = proper;
-    lines_held = session_can_be_held q u.net u.trees was m.session y.end bounds.net fits carries;
-    there = sound_under (as_before before u) n f (λ st k r h. within.facts st n f k r at h);
-    units = placed;
-    resv_style = λ st k r h same.
-        let x = (within.facts st n f k r at h).sound in
-        let b = want_needs st u.net was k.0 x.hop k.1.1 x.wanted x.is in
-        sym b.style ∙ fits.one_style b.want wants.0 b.there wants.1 (b.session ∙ same) wants.2 ∙ wants.3;
-    want_style = λ v w h.
-        let b = wanted (want_at n ((m.session, v), w)) (node_wants u n f (m.session, v) w at h) in
-        sym b.style ∙ fits.one_style b.want wants.0 b.among wants.1 b.session wants.2 ∙ wants.3;
-  }
-
   pub taken_as_wanted : IsTakenWhole here here u.clock (iface_of u.net.ends y.end) m f (goal_at u.net was n)
-  taken_as_wanted = what_is_accepted.whole here here u.clock u.clock (iface_of u.net.ends y.end) m f (goal_at u.net was n) (bounds.facts n f at) can_be_taken
+  taken_as_wanted =
+      taken_as_matched q s before u bounds wanted fit within y m i spelt of f at
+      (λ v j x e. let z = within.items y m v i spelt j in matches x (named v z.names x j z.named e))
 
 -- ---- where it is within what is wanted
 itself_within : (u : World) → AreResvsSound u → AreResvsWithin u.nodes u

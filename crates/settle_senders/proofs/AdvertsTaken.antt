@@ -33,11 +33,11 @@ use Rattle.settle_adverts.specs.Demanded.{advertised_senders}
 use Rattle.settle_paths.proofs.LiveSenders.{live_listed}
 use Rattle.settle_passes.specs.Calls.{SendsAt}
 use Rattle.settle_passes.specs.Passes.{AreSpreading, after_passes}
-use Rattle.settle_passes.proofs.Calls.{IsCalled, called, called_there}
 use Rattle.settle_passes.proofs.Deliveries.{known_self}
 use Rattle.settle_passes.proofs.Spreading.{after_deliveries, run_then, same_on, spreading_on}
+use Rattle.settle_passes.proofs.Called.{IsCalled, called, called_there, senders_then, spares_senders}
 use Rattle.settle_senders.specs.Adverts.{AreAdvertising, after_advert}
-use Rattle.settle_senders.proofs.AdvertCalls.{an_advert_is_said, locals_same}
+use Rattle.settle_senders.proofs.AdvertCalls.{an_advert_is_said}
 
 abbrev key_of : LocalSender → SenderKey
 key_of x = (x.session, x.sender)
@@ -115,7 +115,7 @@ module _ (q n : ℕ) (k : SenderKey) (w : World) (start : AreSpreading q w) wher
 
   -- ---- who sends stays
   locals : (locals_of w).senders ≡ (locals_of asked).senders
-  locals = locals_same q n call w start tt refl
+  locals = sym (senders_then q n call w (spares_senders q n call w refl))
 
   listed : (v : World) (j : SenderKey) → has (advertised_senders v) j ≡ true → In j (each key_of (locals_of v).senders) × (is_advertised v j ≡ true)
   listed v j e = in_filter (is_advertised v) j (each key_of (locals_of v).senders) (set_of_in sender_keys (filter (is_advertised v) (each key_of (locals_of v).senders)) j e)

@@ -9,7 +9,7 @@ use Rattle.tree_model.specs.declared.locals.LocalWant.{LocalWant}
 use Rattle.settle_passes.proofs.Growing.{HasNoLess}
 use Rattle.tree_model.specs.Wants.{Locals}
 use Rattle.settle_senders.proofs.Going.{AllLike, AreAskedLike, IsKeptLike, IsLike, IsLikeLast, IsLiveLetter, Lives, SaysLike}
-use Rattle.settle_senders.proofs.Going.{all_like_append, asked_is_kept, last_like, last_like_before, last_like_behind, like_itself, of_item, stays_like}
+use Rattle.settle_senders.proofs.Going.{all_like_append, asked_is_kept, last_like, last_like_before, last_like_behind, like_itself, stays_like}
 use Rattle.settle_passes.specs.Reserving.{AllAsk, AreAskedFor, IsAskedLast, IsLetter}
 use Rattle.network_model.specs.Events.{pass, passes}
 use Rattle.rsvp_base.proofs.SetLaws.{same_set}
@@ -58,6 +58,7 @@ use Rattle.std.specs.List.{remove}
 use Rattle.settle_passes.specs.Calls.{HasItsPaths}
 use Rattle.style_rules.specs.Merge.{PartTable}
 use Rattle.settle_passes.proofs.Spreading.{after_deliveries, run_then}
+use Rattle.settle_passes.proofs.Arriving.{of_item}
 
 pub same_bool : (a b : Bool) → (a ≡ true → b ≡ true) → (b ≡ true → a ≡ true) → a ≡ b
 same_bool true b f g = sym (f refl)
@@ -100,7 +101,7 @@ module _ (q : ℕ) (d : SenderKey) (flow : TokenBucket) (w u o : World) (was : I
           (λ z m arr spelt over.
           let is : z ≡ y = of_some z y (sym arr ∙ e) in
           no m (ap (λ (a : Item). a.arrival) (sym is) ∙ spelt) (subst (λ (a : Item). IsOver u.net k a m.session m.hop.addr (ask_style m.ask)) is over)) spares)
-          (of_item q d flow w u o was kinds r net fit lives k there y)
+          (of_item q u r.fading.bounds k there y)
 
   by_flight : (k : HopKey) (v : Part) (x : Sender) → In (hop_over k) (hops_of u.net.hops k.session.group) → has v.senders x ≡ true → Lives o k x → (new : List Item) → AllLike o u.net k v new
       → (ys : List Item) → u.flight ≡ ys → IsLikeLast o u.net k v ys

@@ -1,6 +1,6 @@
 -- A call while reservations follow paths: they do so still.
-use Rattle.std.proofs.Common.{◌≡◌, ℕ, ◌+◌, List, Bool, true, cond, Option, None, Some, ◌⊎◌, inl, inr, ⊎_elim, arith, sym, refl, ap, subst, ◌∙◌}
-use Rattle.std.specs.Prelude.{slice_get, map as each}
+use Rattle.std.proofs.Common.{◌≡◌, ℕ, ◌+◌, Bool, true, Some, ◌⊎◌, ⊎_elim, arith, sym, refl, ap, subst, ◌∙◌}
+use Rattle.std.specs.Prelude.{slice_get}
 use Rattle.rsvp_base.specs.declared.part.Part.{Part}
 use Rattle.rsvp_base.specs.declared.session.Sender.{Sender}
 use Rattle.rsvp_base.specs.declared.session.Session.{Session}
@@ -9,42 +9,35 @@ use Rattle.rsvp_base.specs.declared.style.Unit.{Unit as UnitOf}
 use Rattle.rsvp_base.specs.declared.addr.Addr.{Addr}
 use Rattle.rsvp_base.specs.Members.{In}
 use Rattle.rsvp_base.specs.Table.{get, has}
-use Rattle.rsvp_base.specs.TokenBucket.{TokenBucket}
-use Rattle.rsvp_base.proofs.Members.{in_append, in_each}
 use Rattle.rsvp_messages.specs.declared.message.Message.TheVariants as message
 use Rattle.rsvp_messages.specs.Units.{ask_style}
 use Rattle.style_rules.specs.Lines.{LineKey}
-use Rattle.style_rules.specs.Merge.{PartTable}
-use Rattle.laws_steps.specs.BlameLaws.{IsPassedOn, IsRefusal}
 use Rattle.laws_steps.specs.ReservationLaws.{IsAskedFor, Touches}
 use Rattle.laws_steps.proofs.Asking.{where_a_reservation_fact_comes_from}
-use Rattle.laws_steps.proofs.Blaming.{where_an_error_with_a_flow_comes_from}
 use Rattle.router_rules.specs.Facts.{Facts, ResvState, resvs_of}
-use Rattle.router_rules.specs.Inputs.{Call, Came, Input, Local, Spelt, Wait}
+use Rattle.router_rules.specs.Inputs.{Call, Came, Input, Local, Spelt}
 use Rattle.router_rules.specs.Known.{known}
 use Rattle.router_rules.specs.NodeConfig.{NodeConfig, own}
-use Rattle.router_rules.specs.Requests.{toward}
 use Rattle.router_rules.specs.Rule.{Outcome}
 use Rattle.router_rules.specs.Steps.{IsLeftOf, node_step}
 use Rattle.tree_model.specs.Networks.{node_of}
 use Rattle.tree_model.specs.Trees.{hops_of}
-use Rattle.tree_model.proofs.Following.{number_same}
 use Rattle.network_model.specs.Locals.{locals_of}
 use Rattle.network_model.specs.Sound.{AreResvsSound, IsSoundPart, IsSoundResv}
 use Rattle.network_model.specs.Steps.{At, ms_of, outcome, sent, step, still}
-use Rattle.network_model.specs.Worlds.{Item, World, config_of}
+use Rattle.network_model.specs.Worlds.{World, config_of}
 use Rattle.network_model.proofs.Quiet.{at_node_found}
 use Rattle.network_model.proofs.Stepping.{facts_after_found}
-use Rattle.settle_resvs.specs.Said.{HopKey, hop_over, lane_of, resv_key}
-use Rattle.settle_resvs.specs.Sessions.{HasNoFlowErrorOf, IsFreeOfBlockadesOf, SessionFits}
+use Rattle.settle_resvs.specs.Said.{HopKey, hop_over, resv_key}
+use Rattle.settle_resvs.specs.Sessions.{SessionFits}
 use Rattle.settle_resvs.specs.SoftResvs.{line_key_of}
 use Rattle.settle_resvs.proofs.SoftResvs.{resv_found, resv_made}
 use Rattle.settle_passes.specs.Passes.{AreSpreading}
-use Rattle.settle_passes.specs.Reserving.{AllAsk, AreAskedFor, IsAskedLast, IsKeptOver}
-use Rattle.settle_passes.proofs.Calls.{IsCalled, called, path_sent_by_call, sent_by_call}
-use Rattle.settle_passes.proofs.Reserving.{all_append, last_asked, last_before, last_behind}
+use Rattle.settle_passes.specs.Reserving.{IsKeptOver}
 use Rattle.settle_passes.proofs.SoundParts.{sound_cut}
-use Rattle.settle_passes.proofs.Turns.{IsAskedNow, Turns, addressed_in_turn, all_ask, news, stays_or_asked, unit_in_turn}
+use Rattle.settle_passes.proofs.Turns.{Turns, addressed_in_turn, unit_in_turn}
+use Rattle.settle_passes.proofs.Called.{IsCalled, called, free_then, in_flight_then, no_error_then, path_sent_by_call, paths_same, turns}
+use Rattle.settle_passes.proofs.Arriving.{asked_then}
 use Rattle.settle_senders.specs.Following.{ArePathsFromKnown, AreNamesKnown, IsFollowing}
 use Rattle.settle_senders.proofs.Knowing.{kept_named, knows_on, named_on, names_sent, path_from_known}
 
@@ -55,35 +48,8 @@ module _ (q n : ℕ) (call : Local) (w : World) (start : AreSpreading q w) (spre
   abbrev asked : World
   asked = step q (At n call) w
 
-  turns : (m : ℕ) (f : Facts) → slice_get w.nodes m ≡ Some f → (outcome q (At n call) w m f ≡ still f) ⊎ Turns q (At n call) w m f
-  turns m f at =
-      ⊎_elim (λ (z : outcome q (At n call) w m f ≡ still f). inl z)
-      (λ (h : IsCalled q w n call m f).
-      inr (record {
-        input = Call call;
-        came = ap (λ (b : Bool). cond b (Some (Call call)) None) (number_same n m h.node);
-        loud = refl;
-        timeless = λ ms word e. let bad : Call call ≡ Wait ms word = e in cc;
-        is = h.is;
-      }))
-      (called q w n call m f)
-
-  paths_same : (m : ℕ) (f : Facts) → (outcome q (At n call) w m f).facts.paths ≡ f.paths
-  paths_same m f =
-      ⊎_elim (λ (h : outcome q (At n call) w m f ≡ still f). ap (λ (o : Outcome). o.facts.paths) h) (λ (h : IsCalled q w n call m f). ap (λ (o : Outcome). o.facts.paths) h.is) (called q w n call m f)
-
-  walls_same : (m : ℕ) (f : Facts) → (outcome q (At n call) w m f).facts.walls ≡ f.walls
-  walls_same m f =
-      ⊎_elim (λ (h : outcome q (At n call) w m f ≡ still f). ap (λ (o : Outcome). o.facts.walls) h) (λ (h : IsCalled q w n call m f). ap (λ (o : Outcome). o.facts.walls) h.is) (called q w n call m f)
-
-  -- what is in flight was there, or is sent by the call
-  in_flight_then : (y : Item) → In y asked.flight → In y w.flight ⊎ ((b : Bool) × In (y, b) (sent q (At n call) w))
-  in_flight_then y i =
-      ⊎_elim (λ (old : In y w.flight). inl old)
-      (λ (j : In y (each (λ (z : Item × Bool). z.0) (sent q (At n call) w))).
-      let r = in_each (λ (z : Item × Bool). z.0) y (sent q (At n call) w) j in
-      inr (r.0.1, subst (λ (z : Item). In (z, r.0.1) (sent q (At n call) w)) (sym r.2) r.1))
-      (in_append y w.flight (each (λ (z : Item × Bool). z.0) (sent q (At n call) w)) i)
+  turned : (m : ℕ) (f : Facts) → slice_get w.nodes m ≡ Some f → (outcome q (At n call) w m f ≡ still f) ⊎ Turns q (At n call) w m f
+  turned = turns q n call w
 
   -- a reservation was there, with its flow and no fewer names
   resv_before : (st : StyleKind) (m : ℕ) (g : Facts) (key : LineKey) (x : ResvState) → slice_get asked.nodes m ≡ Some g → get (resvs_of st g) key ≡ Some x
@@ -111,14 +77,14 @@ module _ (q n : ℕ) (call : Local) (w : World) (start : AreSpreading q w) (spre
   from_known_then from_known = record {
     facts = λ m g k' x h at e there node.
         let f = facts_after_found q (At n call) w m g at in
-        let old : get f.0.paths k' ≡ Some x = sym (ap (λ (z : _). get z k') (ap (λ (z : Facts). z.paths) f.2 ∙ paths_same m f.0)) ∙ e in
-        knows_on q (At n call) w start.bounds turns known_on (node_of w.net.ends h.from) k' (from_known.facts m f.0 k' x h f.1 old there node);
+        let old : get f.0.paths k' ≡ Some x = sym (ap (λ (z : _). get z k') (ap (λ (z : Facts). z.paths) f.2 ∙ paths_same q n call w m f.0)) ∙ e in
+        knows_on q (At n call) w start.bounds turned known_on (node_of w.net.ends h.from) k' (from_known.facts m f.0 k' x h f.1 old there node);
     items = λ y m x t' h i spelt sender there to.
         ⊎_elim
         (λ (old : In y w.flight).
-        knows_on q (At n call) w start.bounds turns known_on (node_of w.net.ends h.from) (m.session, x) (from_known.items y m x t' h old spelt sender there to))
+        knows_on q (At n call) w start.bounds turned known_on (node_of w.net.ends h.from) (m.session, x) (from_known.items y m x t' h old spelt sender there to))
         (λ (now : (b : Bool) × In (y, b) (sent q (At n call) w)).
-        path_from_known q (At n call) w start.bounds y m x t' h (path_sent_by_call q w n call start.bounds y now.0 m now.1 spelt) sender there to) (in_flight_then y i);
+        path_from_known q (At n call) w start.bounds y m x t' h (path_sent_by_call q w n call start.bounds y now.0 m now.1 spelt) sender there to) (in_flight_then q n call w y i);
   }
 
   names_then : ArePathsFromKnown w → AreNamesKnown w → AreNamesKnown asked
@@ -128,14 +94,14 @@ module _ (q n : ℕ) (call : Local) (w : World) (start : AreSpreading q w) (spre
         let g = resv_found asked (node_of w.net.ends k'.to) k'.style key c.resv c.there in
         let r = resv_before k'.style (node_of w.net.ends k'.to) g.0 key c.resv g.1 g.2 in
         let was : IsKeptOver w k' r.2.part = record { resv = r.2; there = resv_made w (node_of w.net.ends k'.to) k'.style key r.0 r.1 ∙ r.3; is = refl } in
-        named_on q (At n call) w start.bounds turns known_on k'.to k'.session k'.style x
+        named_on q (At n call) w start.bounds turned known_on k'.to k'.session k'.style x
         (names_known.kept k' r.2.part x there was (r.4.names x (ap (λ (z : Part). has z.senders x) c.is ∙ i)));
     items = λ y m v names x i spelt asks named there.
         ⊎_elim
         (λ (old : In y w.flight).
-        named_on q (At n call) w start.bounds turns known_on y.end m.session (ask_style m.ask) x (names_known.items y m v names x old spelt asks named there))
+        named_on q (At n call) w start.bounds turned known_on y.end m.session (ask_style m.ask) x (names_known.items y m v names x old spelt asks named there))
         (λ (now : (b : Bool) × In (y, b) (sent q (At n call) w)).
-        names_sent q (At n call) w start.bounds turns spreads.bounds spreads.sound (from_known_then from_known) y now.0 m now.1 spelt v names x asks named there) (in_flight_then y i);
+        names_sent q (At n call) w start.bounds turned spreads.bounds spreads.sound (from_known_then from_known) y now.0 m now.1 spelt v names x asks named there) (in_flight_then q n call w y i);
   }
 
   -- ---- no reservation says more than is wanted
@@ -160,61 +126,17 @@ module _ (q n : ℕ) (call : Local) (w : World) (start : AreSpreading q w) (spre
         let x = sound.items y m v old spelt asks in
         record { names = x.names; named = x.named; sound = sound_on (ask_style m.ask) m.session y.end m.hop.addr v.unit (record { senders = x.names; flow = v.flow }) x.sound })
         (λ (now : (b : Bool) × In (y, b) (sent q (At n call) w)).
-        unit_in_turn q (At n call) w start.bounds turns spreads.bounds spreads.sound (resv_sound sound) y now.0 m now.1 spelt v asks) (in_flight_then y i);
+        unit_in_turn q (At n call) w start.bounds turned spreads.bounds spreads.sound (resv_sound sound) y now.0 m now.1 spelt v asks) (in_flight_then q n call w y i);
   }
 
   -- ---- a session whose reservations follow
   module _ (s : Session) (r : IsFollowing q s w) (fits : SessionFits asked.net (locals_of asked) s) where
-    no_error_then : HasNoFlowErrorOf s asked
-    no_error_then y m i spelt of = by m.blame.flow refl
-      where
-        by : (o : Option TokenBucket) → m.blame.flow ≡ o → m.blame.flow ≡ None
-        by None e = e
-        by (Some flow) e =
-            ⊎_elim (λ (old : In y w.flight). r.no_error y m old spelt of)
-            (λ (now : (b : Bool) × In (y, b) (sent q (At n call) w)).
-            let d = sent_by_call q w n call y now.0 (message.ResvErr m) now.1 spelt in
-            let p : NodeConfig = config_of q w.net w.trees d.node in
-            let clock : ℕ = w.clock + ms_of (At n call) in
-            ⊎_elim
-            (λ (x : IsRefusal p p clock (Call call) d.facts d.send). let bad : Call call ≡ Came x.at (own p x.at) (Spelt (message.Resv x.resv)) = x.came in absurd (cc))
-            (λ (x : IsPassedOn p (Call call) d.facts d.send m). let bad : Call call ≡ Came x.at (own p x.at) (Spelt (message.ResvErr x.error)) = x.came in absurd (cc))
-            (where_an_error_with_a_flow_comes_from.source (node_step p p w.clock clock (Call call) d.facts) (start.bounds.facts d.node d.facts d.there) d.send m flow d.sent d.says e))
-            (in_flight_then y i)
-
-    free_then : IsFreeOfBlockadesOf s asked
-    free_then m g at target =
-        let f = facts_after_found q (At n call) w m g at in
-        ap (λ (z : Facts). get z.walls (s, target)) f.2 ∙ ap (λ (z : _). get z (s, target)) (walls_same m f.0) ∙ r.free m f.0 f.1 target
-
     kept_then : (k' : HopKey) (v : Part) → In (hop_over k') (hops_of w.net.hops k'.session.group) → IsKeptOver w k' v → IsKeptOver asked k' v
     kept_then k' v there x =
         let now : w.clock + 0 ≡ w.clock = omega arith in
-        kept_named q (At n call) w start.bounds turns known_on now k' v x (λ y i. r.names.kept k' v y there x i)
+        kept_named q (At n call) w start.bounds turned known_on now k' v x (λ y i. r.names.kept k' v y there x i)
         (λ f at h touch. subst (λ (z : Input). Touches z k'.style (line_key_of w.net (resv_key w.net k')) x.resv)
         (at_node_found n (node_of w.net.ends k'.to) (Call call) h.input h.came).1 touch)
-
-    asked_then : AreAskedFor q s asked
-    asked_then k' v g of there at goes =
-        let m : ℕ = node_of w.net.ends k'.from in
-        let p : NodeConfig = config_of q w.net w.trees m in
-        let f = facts_after_found q (At n call) w m g at in
-        let goes' : get (toward p (outcome q (At n call) w m f.0).facts (lane_of w.net k')) k'.unit ≡ Some v = ap (λ (z : Facts). get (toward p z (lane_of w.net k')) k'.unit) (sym f.2) ∙ goes in
-        let new_ones : List Item = news q (At n call) w in
-        let all_new : AllAsk w.net k' v new_ones =
-        (λ y i l.
-        let x = in_each (λ (z : Item × Bool). z.0) y (sent q (At n call) w) i in
-        all_ask q (At n call) w start.bounds turns spreads.bounds spreads.sound k' there g at v goes y x.0.1 (subst (λ (z : Item). In (z, x.0.1) (sent q (At n call) w)) (sym x.2) x.1) l) in
-        ⊎_elim
-        (λ (stays : toward p f.0 (lane_of w.net k') ≡ toward p (outcome q (At n call) w m f.0).facts (lane_of w.net k')).
-        ⊎_elim
-        (λ (x : IsKeptOver w k' v × AllAsk w.net k' v w.flight). inl (kept_then k' v there x.0, all_append w.net k' v w.flight new_ones x.1 all_new))
-        (λ (last : IsAskedLast w.net k' v w.flight). inr (last_before w.net k' v w.flight new_ones last all_new))
-        (r.asked k' v f.0 of there f.1 (ap (λ (z : PartTable). get z k'.unit) stays ∙ goes')))
-        (λ (now : (x : Part) → get (toward p (outcome q (At n call) w m f.0).facts (lane_of w.net k')) k'.unit ≡ Some x
-        → IsAskedNow q (At n call) w start.bounds turns spreads.bounds spreads.sound k' there x).
-        let x = now v goes' in inr (last_behind w.net k' v w.flight new_ones (last_asked w.net k' v new_ones x.item x.new x.says all_new)))
-        (stays_or_asked q (At n call) w start.bounds turns spreads.bounds spreads.sound k' there f.0 f.1)
 
     pub following_then : IsFollowing q s asked
     following_then = record {
@@ -223,10 +145,11 @@ module _ (q n : ℕ) (call : Local) (w : World) (start : AreSpreading q w) (spre
       names = names_then r.from_known r.names;
       sound = resvs_then r.sound;
       fit = fits;
-      free = free_then;
-      no_error = no_error_then;
+      free = free_then q n call w s r.free;
+      no_error = no_error_then q n call w start.bounds s r.no_error;
       addressed = λ y m i spelt.
           ⊎_elim (λ (old : In y w.flight). r.addressed y m old spelt)
-          (λ (now : (b : Bool) × In (y, b) (sent q (At n call) w)). addressed_in_turn q (At n call) w start.bounds turns spreads.bounds spreads.sound y now.0 m now.1 spelt) (in_flight_then y i);
-      asked = asked_then;
+          (λ (now : (b : Bool) × In (y, b) (sent q (At n call) w)). addressed_in_turn q (At n call) w start.bounds turned spreads.bounds spreads.sound y now.0 m now.1 spelt)
+          (in_flight_then q n call w y i);
+      asked = asked_then q n call w start.bounds spreads.bounds spreads.sound s kept_then r.asked;
     }

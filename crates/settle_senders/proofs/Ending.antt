@@ -1,6 +1,6 @@
 -- A host ends to send: what nodes keep and what they ask for is never more than was wanted before, and H passes on no reservation names the
 -- sender.
-use Rattle.std.proofs.Common.{◌≡◌, ℕ, zero, suc, ◌+◌, ◌≤◌, List, [], ◌∷◌, length, Bool, true, false, cond, Option, None, Some, ◌⊎◌, inl, inr, ⊎_elim, arith, sym, refl, ap, subst, ◌∙◌}
+use Rattle.std.proofs.Common.{◌≡◌, ℕ, zero, suc, ◌+◌, ◌≤◌, List, [], ◌∷◌, length, Bool, true, false, Option, None, Some, ◌⊎◌, inl, inr, ⊎_elim, arith, sym, refl, ap, subst, ◌∙◌}
 use Rattle.std.specs.Prelude.{slice_get, is_some, ◌||◌, map as each}
 use Rattle.std.specs.Ordering.{eq_by_cmp}
 use Rattle.rsvp_base.specs.declared.addr.Addr.{Addr}
@@ -23,26 +23,23 @@ use Rattle.rsvp_messages.specs.declared.message.Message.TheVariants as message
 use Rattle.rsvp_messages.specs.declared.message.ResvMsg.{ResvMsg}
 use Rattle.rsvp_messages.specs.Units.{AskedUnit, ask_style, asked_units}
 use Rattle.style_rules.specs.Lines.{AreUnder, BookTable, NextHop, held}
-use Rattle.style_rules.specs.PartLaws.{part_at_most_itself, part_at_most_told, same_part}
-use Rattle.style_rules.specs.Parts.{IsPartAtMost}
+use Rattle.style_rules.specs.PartLaws.{part_at_most_told, same_part}
 use Rattle.style_rules.proofs.Books.{held_at_end_below}
 use Rattle.laws_bounds.specs.FactLaws.{ComesBy}
 use Rattle.laws_bounds.specs.SendLaws.{IsAskedOf}
 use Rattle.laws_bounds.proofs.Asks.{units_told}
-use Rattle.laws_bounds.proofs.Framing.{wants_then}
 use Rattle.laws_bounds.proofs.Knowing.{has-known, known_and_via}
 use Rattle.laws_bounds.proofs.Tests.{came_told}
 use Rattle.laws_steps.specs.AcceptingLaws.{IsTakenWhole}
 use Rattle.laws_steps.specs.ReservationLaws.{IsAskedFor}
 use Rattle.laws_steps.proofs.Asking.{where_a_reservation_fact_comes_from}
 use Rattle.router_rules.specs.Books.{book, lines}
-use Rattle.router_rules.specs.Calls.{call_refusal}
-use Rattle.router_rules.specs.Facts.{Facts, PathState, ResvState, SenderKey, Want, resvs_of, sender_keys}
-use Rattle.router_rules.specs.Inputs.{Call, Came, DropAs, Input, Local, Spelt, Wait}
+use Rattle.router_rules.specs.Facts.{Facts, PathState, ResvState, SenderKey, resvs_of, sender_keys}
+use Rattle.router_rules.specs.Inputs.{Call, Came, DropAs, Input, Local, Spelt}
 use Rattle.router_rules.specs.Known.{Lane, known, names_via}
 use Rattle.router_rules.specs.NodeConfig.{NodeConfig, own}
 use Rattle.router_rules.specs.Requests.{toward}
-use Rattle.router_rules.specs.Rule.{Outcome, is_silent}
+use Rattle.router_rules.specs.Rule.{Outcome}
 use Rattle.router_rules.specs.Steps.{IsLeftOf, facts_then, node_step}
 use Rattle.tree_model.specs.declared.hops.LinkHop.{LinkHop}
 use Rattle.tree_model.specs.declared.locals.LocalWant.{LocalWant}
@@ -51,19 +48,19 @@ use Rattle.tree_model.specs.Networks.{Net, end_at, iface_of, node_of}
 use Rattle.tree_model.specs.Ranks.{longest, rank}
 use Rattle.tree_model.specs.Trees.{outward, tree}
 use Rattle.tree_model.specs.Wants.{Locals, goes_over, live, names}
-use Rattle.tree_model.proofs.Following.{has_hop_in, in_has_hop, number_same, tree_group}
+use Rattle.tree_model.proofs.Following.{has_hop_in, in_has_hop, tree_group}
 use Rattle.tree_model.proofs.Ifaces.{interfaces_are_ends}
 use Rattle.tree_model.proofs.TreeLaws.{out_tested, the_root_has_no_inward}
 use Rattle.tree_model.proofs.WantLaws.{name_made, name_told, want_names}
 use Rattle.network_model.specs.Bounds.{AreBounds, AreHosts, IsStart}
 use Rattle.network_model.specs.Events.{pass, passes}
-use Rattle.network_model.specs.Locals.{IsLive, locals_of, want_at}
+use Rattle.network_model.specs.Locals.{IsLive, locals_of}
 use Rattle.network_model.specs.Sound.{AreResvsSound, IsSoundPart, IsSoundUnit, TakesAll}
 use Rattle.network_model.specs.Steps.{At, Deliver, Step, input_at, is_quiet, ms_of, outcome, sent, step, still}
 use Rattle.network_model.specs.Worlds.{Item, World, config_of}
 use Rattle.network_model.proofs.Machines.{in_arrived, in_flight_after}
-use Rattle.network_model.proofs.NodeLocals.{is_live, node_wants, want_of_node}
-use Rattle.network_model.proofs.Quiet.{FollowsRule, arrival_takes_no_time, outcome_by, outcome_quiet}
+use Rattle.network_model.proofs.NodeLocals.{is_live}
+use Rattle.network_model.proofs.Quiet.{arrival_takes_no_time, outcome_by}
 use Rattle.network_model.proofs.Stepping.{facts_after_found}
 use Rattle.laws_network.specs.Known.{IsSameNet}
 use Rattle.laws_network.proofs.Known.{came_there, has_some, of_some}
@@ -84,18 +81,18 @@ use Rattle.settle_resvs.proofs.WantStyles.{want_parts}
 use Rattle.settle_network.specs.Settled.{HasSettled}
 use Rattle.settle_passes.specs.Calls.{HasItsPaths, HasNoPathOf, SendsAt, after_drop}
 use Rattle.settle_passes.specs.Passes.{after_passes}
-use Rattle.settle_passes.proofs.Calls.{IsCalled, called}
-use Rattle.settle_passes.proofs.Deliveries.{came_by_delivery, known_self, live_back, same_next}
+use Rattle.settle_passes.proofs.Deliveries.{known_self, live_back, same_next}
 use Rattle.settle_passes.proofs.Dropping.{an_ended_sender_is_forgotten, fades}
 use Rattle.settle_passes.proofs.Fading.{fading_next, not_tied}
-use Rattle.settle_passes.proofs.Growing.{HasNoLess}
+use Rattle.settle_passes.proofs.Growing.{HasNoLess, still_wanted}
 use Rattle.settle_passes.proofs.Leaving.{IsFading}
 use Rattle.settle_passes.proofs.SoundParts.{sound_cut}
 use Rattle.settle_passes.proofs.Spreading.{after_deliveries, run_then}
 use Rattle.settle_passes.proofs.Turns.{HaveWays, Turns, addressed_back, left, over_way, place, resv_in_turn}
 use Rattle.settle_releases.proofs.Accepting.{AreResvsWithin}
-use Rattle.settle_releases.proofs.Releasing.{unless_same}
 use Rattle.settle_passes.proofs.Fitting.{as_before}
+use Rattle.settle_passes.proofs.Called.{IsCalled, called, turns as called_turns, wants_same}
+use Rattle.settle_passes.proofs.Arriving.{turns as turns_of}
 use Rattle.settle_releases.proofs.Within.{AreKeptWithin, named_within, toward_is_within_what_was_wanted}
 use Rattle.settle_senders.specs.Ending.{AreAsksOfLive, AreNamesLive, AreNoMoreThanWanted, EndsHoldNoMore, IsNameOfLive}
 use Rattle.settle_senders.specs.Following.{HasSenderNamed}
@@ -218,18 +215,7 @@ module _ (q : ℕ) (d : SenderKey) (flow : TokenBucket) (w u : World) (was : IsL
 
   -- a node that gets something gets a datagram
   pub turns : (n : ℕ) (f : Facts) → slice_get u.nodes n ≡ Some f → (outcome q (Deliver 0) u n f ≡ still f) ⊎ Turns q (Deliver 0) u n f
-  turns n f at =
-      ⊎_elim (λ (z : (input_at (Deliver 0) u n ≡ None) × (outcome q (Deliver 0) u n f ≡ still f)). inl z.1)
-      (λ (h : FollowsRule q (Deliver 0) u n f (outcome q (Deliver 0) u n f)).
-      let c = came_by_delivery q 0 u bounds n h.input h.came in
-      inr (record {
-        input = h.input;
-        came = h.came;
-        loud = ap is_silent c.is;
-        timeless = λ ms word e. let bad : Wait ms word ≡ Came (iface_of u.net.ends c.item.end) c.item.dst c.item.arrival = sym e ∙ c.is in cc;
-        is = h.is;
-      }))
-      (outcome_quiet q (Deliver 0) u n f refl)
+  turns = turns_of q u bounds
 
   -- what a node keeps it kept, or an item asked for it
   pub kept_within : AreKeptWithin w.nodes next
@@ -297,6 +283,38 @@ module _ (q : ℕ) (d : SenderKey) (flow : TokenBucket) (w : World) (was : IsLiv
       let v : World = after_deliveries q (length u.flight) u in
       subst (λ (z : World). IsLettingGo q d w z) (sym (run_then q (pass q u) (passes q m v) u)) (passes_on m v (deliveries_on (length u.flight) u r))
 
+-- ---- so no node keeps more than was wanted
+module _ (q : ℕ) (d : SenderKey) (w u : World) (r : IsLettingGo q d w u) (net : u.net ≡ w.net) where
+  pub asks_for_no_more : AreNoMoreThanWanted w u
+  asks_for_no_more st m f k x at e =
+      let y = r.within.facts st m f k x at e in
+      record {
+        end = y.end;
+        at = subst (λ (z : Net). end_at z.ends m k.1.0.0 ≡ Some y.end) net y.at;
+        sound = part_again st (as_before w.nodes u) w k.0 y.end k.1.0.1 k.1.1 x.part net refl y.sound;
+      }
+
+  pub no_end_holds_more : AreBounds q w → EndsHoldNoMore w u
+  no_end_holds_more bounds e f lt at =
+      let m : ℕ = node_of w.net.ends e in
+      let j : ℕ = iface_of w.net.ends e in
+      let under : AreUnder (lines f) (goal_at w.net (locals_of w) m) = sound_under w m f (λ st k x h. asks_for_no_more st m f k x at h) in
+      subst (λ (z : BookTable). held (book f j) ≤ held z) (book_at w.net bounds.net (locals_of w) m j e ((interfaces_are_ends w.net).end_of_iface e lt))
+      (held_at_end_below j (lines f) (goal_at w.net (locals_of w) m) under)
+
+-- ---- and where paths are those of the live senders, whom a node knows is live
+module _ (q : ℕ) (d : SenderKey) (w u : World) (r : IsLettingGo q d w u) (has_them : HasItsPaths q u) where
+  live_by : (m : ℕ) (f : Facts) → slice_get u.nodes m ≡ Some f → (s : Session) (st : StyleKind) (x y : Sender) → x ≡ name_of st y → (o : Option TokenBucket) (p : Option PathState)
+      → get f.senders (s, y) ≡ o → get f.paths (s, y) ≡ p → (has f.senders (s, y) || has f.paths (s, y)) ≡ true → IsNameOfLive u s st x
+  live_by m f at s st x y name (Some t) p e g sure = record { sender = y; flow = t; live = is_live u m f (s, y) t at e; name = name }
+  live_by m f at s st x y name None (Some p) e g sure = record { sender = y; flow = p.tspec; live = (has_them.sound.facts m f (s, y) p at g).sound.live; name = name }
+  live_by m f at s st x y name None None e g sure = let bad : true ≡ false = sym sure ∙ (λ i. is_some (e i) || is_some (g i)) in absurd (cc)
+
+  pub names_live : AreNamesLive u
+  names_live st m f k y x at e named =
+      let z = (known_and_via.named_by st (known f k.0) x).0 (r.names m f at st k y x e named) in
+      live_by m f at k.0 st x z.sender z.name (get f.senders (k.0, z.sender)) (get f.paths (k.0, z.sender)) refl refl (sym (has-known f k.0 z.sender) ∙ z.among)
+
 -- ---- the host ends
 module _ (q n : ℕ) (d : SenderKey) (w : World) (start : HasItsPaths q w) (sound : AreResvsSound w) (sends : SendsAt w n d) (quiet : HasNoPathOf w d)
     (addressed : (y : Item) (m : ResvMsg) → In y w.flight → y.arrival ≡ Spelt (message.Resv m) → y.dst ≡ addr_of w.net y.end) where
@@ -321,18 +339,8 @@ module _ (q n : ℕ) (d : SenderKey) (w : World) (start : HasItsPaths q w) (soun
   pub kinds : AreWantParts (locals_of w)
   kinds = want_parts q w start.bounds
 
-  pub turns_now : (m : ℕ) (f : Facts) → slice_get w.nodes m ≡ Some f → (outcome q (At n call) w m f ≡ still f) ⊎ Turns q (At n call) w m f
-  turns_now m f at =
-      ⊎_elim (λ (z : outcome q (At n call) w m f ≡ still f). inl z)
-      (λ (h : IsCalled q w n call m f).
-      inr (record {
-        input = Call call;
-        came = ap (λ (b : Bool). cond b (Some (Call call)) None) (number_same n m h.node);
-        loud = refl;
-        timeless = λ ms word e. let bad : Call call ≡ Wait ms word = e in cc;
-        is = h.is;
-      }))
-      (called q w n call m f)
+  turned : (m : ℕ) (f : Facts) → slice_get w.nodes m ≡ Some f → (outcome q (At n call) w m f ≡ still f) ⊎ Turns q (At n call) w m f
+  turned = called_turns q n call w
 
   pub lived_now : (k : SenderKey) (t : TokenBucket) → IsLive begun k t → IsLive w k t
   lived_now k t l =
@@ -341,26 +349,7 @@ module _ (q n : ℕ) (d : SenderKey) (w : World) (start : HasItsPaths q w) (soun
       is_live w l.node f.0 k t f.1 f.2
 
   pub wanted_now : (x : LocalWant) → In x (locals_of begun).wants → HasNoLess (locals_of w).wants x
-  wanted_now x i =
-      let r = want_of_node begun x i in
-      let f = facts_after_found q (At n call) w x.node r.0 r.3 in
-      let now : get (outcome q (At n call) w x.node f.0).facts.wants r.1 ≡ Some r.2 = ap (λ (z : Facts). get z.wants r.1) (sym f.2) ∙ r.4 in
-      let old : (y : Want) × (get f.0.wants r.1 ≡ Some y) × (y.style ≡ r.2.style) × (r.2.part ≡ y.part) =
-      ⊎_elim (λ (z : outcome q (At n call) w x.node f.0 ≡ still f.0). (r.2, sym (ap (λ (o : Outcome). get o.facts.wants r.1) z) ∙ now, refl, refl))
-      (λ (h : IsCalled q w n call x.node f.0).
-      let p : NodeConfig = config_of q w.net w.trees x.node in
-      let marks = wants_then p p (w.clock + ms_of (At n call)) (Call call) f.0 in
-      let b = marks.source r.1 r.2 (sym (ap (λ (o : Outcome). get o.facts.wants r.1) h.is) ∙ now) in
-      (b.0, sym (ap (λ (z : _). get z r.1) (unless_same (call_refusal p call f.0) f.0.wants)) ∙ b.1, sym b.2.style, b.2.part))
-      (called q w n call x.node f.0) in
-      record {
-        want = want_at x.node (r.1, old.0);
-        among = node_wants w x.node f.0 r.1 old.0 f.1 old.1;
-        node = refl;
-        session = ap (λ (z : LocalWant). z.session) (sym r.5);
-        style = old.2 ∙ ap (λ (z : LocalWant). z.style) (sym r.5);
-        part = subst (λ (z : Part). IsPartAtMost z old.0.part) (sym old.3 ∙ ap (λ (z : LocalWant). z.part) (sym r.5)) (part_at_most_itself old.0.part);
-      }
+  wanted_now = still_wanted (locals_of begun).wants (locals_of w).wants (wants_same q n call w refl)
 
   -- what nodes keep they kept before, perhaps with fewer names
   pub kept_now : AreKeptWithin w.nodes begun
@@ -419,7 +408,7 @@ module _ (q n : ℕ) (d : SenderKey) (w : World) (start : HasItsPaths q w) (soun
             sound = part_again (ask_style m.ask) w (as_before w.nodes begun) m.session y.end m.hop.addr v.unit (record { senders = x.names; flow = v.flow }) refl refl x.sound;
           })
           (λ (new : (b : Bool) × In (y, b) (sent q (At n call) w)).
-          unit_within q (At n call) w w start.bounds turns_now fades_now.bounds (all_came q d flow.0 w begun was fades_now lived_now) kinds wanted_now kept_now y new.0 m new.1 spelt v asks)
+          unit_within q (At n call) w w start.bounds turned fades_now.bounds (all_came q d flow.0 w begun was fades_now lived_now) kinds wanted_now kept_now y new.0 m new.1 spelt v asks)
           (in_flight_now y i);
     };
     lived = lived_now;
@@ -427,31 +416,12 @@ module _ (q n : ℕ) (d : SenderKey) (w : World) (start : HasItsPaths q w) (soun
     addressed = λ y m i spelt.
         ⊎_elim (λ (old : In y w.flight). addressed y m old spelt)
         (λ (new : (b : Bool) × In (y, b) (sent q (At n call) w)).
-        addressed_back q (At n call) w start.bounds turns_now fades_now.bounds (ways_before w begun (all_came q d flow.0 w begun was fades_now lived_now)) y new.0 m new.1 spelt)
+        addressed_back q (At n call) w start.bounds turned fades_now.bounds (ways_before w begun (all_came q d flow.0 w begun was fades_now lived_now)) y new.0 m new.1 spelt)
         (in_flight_now y i);
   }
 
   pub then_on : (i : ℕ) → IsLettingGo q d w (after_passes q i begun)
   then_on i = passes_on q d flow.0 w was kinds i begun lets_go
-
-  pub a_drop_asks_for_no_more : (i : ℕ) → AreNoMoreThanWanted w (after_passes q i begun)
-  a_drop_asks_for_no_more i st m f k r at e =
-      let u : World = after_passes q i begun in
-      let net : u.net ≡ w.net = net_stays q i begun in
-      let x = (then_on i).within.facts st m f k r at e in
-      record {
-        end = x.end;
-        at = subst (λ (z : Net). end_at z.ends m k.1.0.0 ≡ Some x.end) net x.at;
-        sound = part_again st (as_before w.nodes u) w k.0 x.end k.1.0.1 k.1.1 r.part net refl x.sound;
-      }
-
-  pub no_end_holds_more : (i : ℕ) → EndsHoldNoMore w (after_passes q i begun)
-  no_end_holds_more i e f lt at =
-      let m : ℕ = node_of w.net.ends e in
-      let j : ℕ = iface_of w.net.ends e in
-      let under : AreUnder (lines f) (goal_at w.net (locals_of w) m) = sound_under w m f (λ st k r h. a_drop_asks_for_no_more i st m f k r at h) in
-      subst (λ (z : BookTable). held (book f j) ≤ held z) (book_at w.net start.bounds.net (locals_of w) m j e ((interfaces_are_ends w.net).end_of_iface e lt))
-      (held_at_end_below j (lines f) (goal_at w.net (locals_of w) m) under)
 
   -- from H passes on
   abbrev later : ℕ → World
@@ -464,21 +434,7 @@ module _ (q n : ℕ) (d : SenderKey) (w : World) (start : HasItsPaths q w) (soun
 
   -- whom a node knows when its path is gone is live
   pub no_reservation_names_it : (i : ℕ) → HasItsPaths q (later i) × AreNamesLive (later i)
-  no_reservation_names_it i = (
-    forgotten i,
-    λ st m f k r x at e named.
-        let u : World = later i in
-        let z = (known_and_via.named_by st (known f k.0) x).0 ((then_on (longest w.net + i)).names m f at st k r x e named) in
-        let by : (o : Option TokenBucket) (p : Option PathState) → get f.senders (k.0, z.sender) ≡ o → get f.paths (k.0, z.sender) ≡ p
-        → (has f.senders (k.0, z.sender) || has f.paths (k.0, z.sender)) ≡ true → IsNameOfLive u k.0 st x = live_by u (forgotten i) m f at k.0 st x z.sender z.name in
-        by (get f.senders (k.0, z.sender)) (get f.paths (k.0, z.sender)) refl refl (sym (has-known f k.0 z.sender) ∙ z.among),
-  )
-    where
-      live_by : (u : World) → HasItsPaths q u → (m : ℕ) (f : Facts) → slice_get u.nodes m ≡ Some f → (s : Session) (st : StyleKind) (x y : Sender) → x ≡ name_of st y
-          → (o : Option TokenBucket) (p : Option PathState) → get f.senders (s, y) ≡ o → get f.paths (s, y) ≡ p → (has f.senders (s, y) || has f.paths (s, y)) ≡ true → IsNameOfLive u s st x
-      live_by u has m f at s st x y name (Some t) p e g sure = record { sender = y; flow = t; live = is_live u m f (s, y) t at e; name = name }
-      live_by u has m f at s st x y name None (Some p) e g sure = record { sender = y; flow = p.tspec; live = (has.sound.facts m f (s, y) p at g).sound.live; name = name }
-      live_by u has m f at s st x y name None None e g sure = let bad : true ≡ false = sym sure ∙ (λ i. is_some (e i) || is_some (g i)) in absurd (cc)
+  no_reservation_names_it i = (forgotten i, names_live q d w (later i) (then_on (longest w.net + i)) (forgotten i))
 
   -- and a pass later no Resv in flight does
   pub no_resv_names_it : (i : ℕ) → AreAsksOfLive (later (suc i))
@@ -529,7 +485,7 @@ module _ (q n : ℕ) (d : SenderKey) (w : World) (start : HasItsPaths q w) (soun
         let fits : SessionFits u.net (locals_of w) m.session = subst (λ (z : Net). SessionFits z (locals_of w) m.session) (sym net) (each_fits w.net (locals_of w) fit m.session) in
         taken_as_wanted q m.session w.nodes u has_them.bounds r.wanted fits r.within y m i spelt refl f at (known_there y m f i spelt at)
 
-    takes_all_then : (t : Step) → is_quiet t ≡ true → TakesAll q t u
+    pub takes_all_then : (t : Step) → is_quiet t ≡ true → TakesAll q t u
     takes_all_then t quiet_one y m f v arr spelt at asked =
         let i : In y u.flight = in_arrived t u y arr in
         let e : ℕ = node_of u.net.ends y.end in
@@ -564,26 +520,6 @@ settled_has_paths q w bounds locals settled quiet = record {
   complete = settled.paths_complete;
   no_tear = λ y m i. absurd (subst (λ (z : List Item). In y z) quiet i);
 }
-
-pub a_settled_network_asks_for_no_more : (q n i : ℕ) (d : SenderKey) (w : World) → AreBounds q w → AreHosts w → HasSettled q w → w.flight ≡ [] → SendsAt w n d
-    → AreNoMoreThanWanted w (after_passes q i (after_drop q n d w)) × EndsHoldNoMore w (after_passes q i (after_drop q n d w))
-a_settled_network_asks_for_no_more q n i d w bounds locals settled quiet sends =
-    let start = settled_has_paths q w bounds locals settled quiet in
-    let silent : HasNoPathOf w d = (λ y m t j. absurd (subst (λ (z : List Item). In y z) quiet j)) in
-    let mute : (y : Item) (m : ResvMsg) → In y w.flight → y.arrival ≡ Spelt (message.Resv m) → y.dst ≡ addr_of w.net y.end = (λ y m j. absurd (subst (λ (z : List Item). In y z) quiet j)) in
-    (a_drop_asks_for_no_more q n d w start settled.resvs_sound sends silent mute i, no_end_holds_more q n d w start settled.resvs_sound sends silent mute i)
-
-pub a_settled_network_names_live_senders : (q n i : ℕ) (d : SenderKey) (w : World) → AreBounds q w → AreHosts w → HasSettled q w → w.flight ≡ [] → SendsAt w n d
-    → HasItsPaths q (after_passes q (longest w.net + i) (after_drop q n d w)) × AreNamesLive (after_passes q (longest w.net + i) (after_drop q n d w))
-a_settled_network_names_live_senders q n i d w bounds locals settled quiet sends =
-    no_reservation_names_it q n d w (settled_has_paths q w bounds locals settled quiet) settled.resvs_sound sends (λ y m t j. absurd (subst (λ (z : List Item). In y z) quiet j))
-    (λ y m j. absurd (subst (λ (z : List Item). In y z) quiet j)) i
-
-pub a_settled_network_asks_for_live_senders : (q n i : ℕ) (d : SenderKey) (w : World) → AreBounds q w → AreHosts w → HasSettled q w → w.flight ≡ [] → SendsAt w n d
-    → AreAsksOfLive (after_passes q (longest w.net + suc i) (after_drop q n d w))
-a_settled_network_asks_for_live_senders q n i d w bounds locals settled quiet sends =
-    no_resv_names_it q n d w (settled_has_paths q w bounds locals settled quiet) settled.resvs_sound sends (λ y m t j. absurd (subst (λ (z : List Item). In y z) quiet j))
-    (λ y m j. absurd (subst (λ (z : List Item). In y z) quiet j)) i
 
 pub a_settled_network_takes_all : (q n i : ℕ) (d : SenderKey) (w : World) → IsStart q w → HasSettled q w → w.flight ≡ [] → SendsAt w n d → (t : Step) → is_quiet t ≡ true
     → TakesAll q t (after_passes q (longest w.net + suc i) (after_drop q n d w))

@@ -25,7 +25,7 @@ use Rattle.network_model.specs.Steps.{At, facts_from, outcome, still}
 use Rattle.network_model.specs.Worlds.{World, config_of}
 use Rattle.network_model.proofs.Stepping.{facts_after_found}
 use Rattle.settle_passes.specs.Calls.{after_drop}
-use Rattle.settle_passes.proofs.Calls.{IsCalled, called}
+use Rattle.settle_passes.proofs.Called.{IsCalled, called}
 
 -- ---- a list is what is left of another where some are taken out
 abbrev IsLeftOfList : {A : Type 0} → List A → List A → Type 0

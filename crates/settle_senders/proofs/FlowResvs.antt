@@ -33,7 +33,7 @@ use Rattle.laws_bounds.proofs.Ruling.{toward_unmarked}
 use Rattle.laws_bounds.proofs.Stepping.{send_told}
 use Rattle.laws_steps.proofs.Framing.{forget_nobody}
 use Rattle.laws_steps.proofs.Hopward.{what_a_resv_sent_says, why_a_resv_tear_is_sent}
-use Rattle.router_rules.specs.Act.{act, act_spelt, is_mine}
+use Rattle.router_rules.specs.Act.{act, is_mine}
 use Rattle.router_rules.specs.Books.{book}
 use Rattle.router_rules.specs.Calls.{call_refusal}
 use Rattle.router_rules.specs.Bounds.{IsWithinBounds}
@@ -74,11 +74,13 @@ use Rattle.settle_passes.specs.Passes.{HasNoPathTear, after_passes}
 use Rattle.settle_passes.proofs.Deliveries.{came_by_delivery, known_self, live_back, path_stays, same_next, tear_of_none}
 use Rattle.settle_passes.proofs.Spreading.{after_deliveries, run_then}
 use Rattle.settle_passes.proofs.Turns.{Turns, moment, place, sent_in_turn}
-use Rattle.settle_releases.proofs.Releasing.{unless_same}
-use Rattle.settle_senders.specs.Flows.{HasItsFlows, IsPathOnTheTree, IsTelling}
-use Rattle.settle_senders.proofs.FlowDeliveries.{paths_next, telling_next, turns}
-use Rattle.settle_senders.proofs.FlowsThere.{flows_are_set_up, flows_that_are_there_are_said}
-use Rattle.settle_senders.proofs.FlowCalls.{a_new_flow_is_said, in_flight_then, locals_same, put_has_same, says_as_before, turns as called_turns}
+use Rattle.settle_passes.proofs.Called.{in_flight_then, turns as called_turns, unless_same}
+use Rattle.settle_senders.specs.Flows.{HasItsFlows, IsTelling}
+use Rattle.settle_senders.proofs.FlowsThere.{flows_are_set_up, flows_that_are_there_are_said, telling_next}
+use Rattle.settle_senders.proofs.FlowCalls.{a_new_flow_is_said, locals_same, put_has_same}
+use Rattle.settle_senders.specs.Readings.{IsPathOnTheTree}
+use Rattle.settle_senders.proofs.Silence.{no_confs, no_errors, not_asked}
+use Rattle.settle_senders.proofs.OfferDeliveries.{paths_next, turns}
 
 -- ---- what goes toward a hop: by what stands, what is wanted, the blockades, and whose paths come by the hop
 abbrev toward_with : NodeConfig → Lane → ResvTables → Wants → Walls → Names → PartTable
@@ -162,23 +164,11 @@ module _ (p : NodeConfig) (c e : ℕ) (dst : Addr) (m : PathMsg) (f : Facts) whe
   abbrev tells : Input
   tells = Came e dst (Spelt (message.Path m))
 
-  no_errors : (b : Bool) → (act_spelt p c e (message.Path m) b f).errors ≡ []
-  no_errors true = refl
-  no_errors false = refl
-
-  no_confs : (b : Bool) → (act_spelt p c e (message.Path m) b f).confs ≡ []
-  no_confs true = refl
-  no_confs false = refl
-
-  not_asked : (b : Bool) → (act_spelt p c e (message.Path m) b f).asked ≡ None
-  not_asked true = refl
-  not_asked false = refl
-
   path_idle : ((s : Session) → known f s ≡ known (facts_then p p c tells f) s) → ((s : Session) (hop : NextHop) → via f s hop ≡ via (facts_then p p c tells f) s hop) → IsIdleTurn p c tells f
   path_idle knows ways = record {
-    errors = no_errors (is_mine p e dst (message.Path m));
-    confs = no_confs (is_mine p e dst (message.Path m));
-    asked = not_asked (is_mine p e dst (message.Path m));
+    errors = no_errors p c e dst m f (is_mine p e dst (message.Path m));
+    confs = no_confs p c e dst m f (is_mine p e dst (message.Path m));
+    asked = not_asked p c e dst m f (is_mine p e dst (message.Path m));
     resvs = act_resvs p c tells f refl;
     wants = act_wants p c tells f refl;
     walls = act_walls p c tells f refl;
@@ -245,7 +235,7 @@ pub record IsQuietBut (q : ℕ) (o u : World) : Type 0 where
 -- ---- one delivery
 module _ (q : ℕ) (o u : World) (start : IsQuietBut q o u) where
   abbrev bounds : AreBounds q u
-  bounds = start.telling.bounds
+  bounds = start.telling.rooted.bounds
 
   abbrev next : World
   next = step q (Deliver 0) u
@@ -254,7 +244,7 @@ module _ (q : ℕ) (o u : World) (start : IsQuietBut q o u) where
     -- a path stays, and comes by the same hop
     path_forth : (k : SenderKey) (x : PathState) → get f.paths k ≡ Some x → (y : PathState) × (get g.paths k ≡ Some y) × (x.iface ≡ y.iface) × (x.hop.addr ≡ y.hop.addr)
     path_forth k x e =
-        let s = path_stays q 0 u bounds n f k x (tear_of_none u start.telling.no_tear k) at e in
+        let s = path_stays q 0 u bounds n f k x (tear_of_none u start.telling.rooted.no_tear k) at e in
         let same : s.0 ≡ g = of_some s.0 g (sym s.1 ∙ then_at) in
         let there : get g.paths k ≡ Some s.2 = ap (λ (z : Facts). get z.paths k) (sym same) ∙ s.3 in
         let w = one_way_on k x s.2 e there in
@@ -262,15 +252,15 @@ module _ (q : ℕ) (o u : World) (start : IsQuietBut q o u) where
       where
         one_way_on : (k : SenderKey) (x y : PathState) → get f.paths k ≡ Some x → get g.paths k ≡ Some y → (x.iface ≡ y.iface) × (x.hop.addr ≡ y.hop.addr)
         one_way_on k x y e h =
-            let a = on_way u bounds.net n k x (start.telling.paths.facts n f k x at e) in
-            let b = on_way next bounds.net n k y ((paths_next q u start.telling).facts n g k y then_at h) in
+            let a = on_way u bounds.net n k x (start.telling.rooted.paths.facts n f k x at e) in
+            let b = on_way next bounds.net n k y ((paths_next q u start.telling.rooted).facts n g k y then_at h) in
             let same : a.0 ≡ b.0 = one u.net bounds.net k.0.group k.1.addr a.0 b.0 a.1 b.1 (a.2 ∙ sym b.2) in
             (a.3 ∙ ap (λ (h : LinkHop). iface_of u.net.ends h.to) same ∙ sym b.3, a.4 ∙ ap (λ (h : LinkHop). addr_of u.net h.from) same ∙ sym b.4)
 
     -- and was there
     path_back : (k : SenderKey) (y : PathState) → get g.paths k ≡ Some y → (x : PathState) × (get f.paths k ≡ Some x)
     path_back k y e =
-        let s = (paths_next q u start.telling).facts n g k y then_at e in
+        let s = (paths_next q u start.telling.rooted).facts n g k y then_at e in
         let w = on_way next bounds.net n k y s in
         let p = start.telling.there k s.sound.0 w.0 (live_back q 0 u bounds k s.sound.0 s.sound.1.live) w.1 in
         let same : p.1.facts ≡ f = of_some p.1.facts f (sym p.1.node ∙ ap (λ (z : ℕ). slice_get u.nodes z) w.2 ∙ at) in
@@ -338,10 +328,10 @@ module _ (q : ℕ) (o u : World) (start : IsQuietBut q o u) where
       record {
         telling = telling;
         same = same_next q 0 u bounds o start.same;
-        stands = λ n. kept_there q (Deliver 0) u bounds (turns q u start.telling) idle_turns n ∙ start.stands n;
+        stands = λ n. kept_there q (Deliver 0) u bounds (turns q u start.telling.rooted) idle_turns n ∙ start.stands n;
         paths = λ y i.
             ⊎_elim (λ (old : In y u.flight). start.paths y old)
-            (λ (new : (b : Bool) × In (y, b) (sent q (Deliver 0) u)). paths_sent q (Deliver 0) u bounds (turns q u start.telling) idle_turns telling.no_tear y new.0 new.1 i)
+            (λ (new : (b : Bool) × In (y, b) (sent q (Deliver 0) u)). paths_sent q (Deliver 0) u bounds (turns q u start.telling.rooted) idle_turns telling.rooted.no_tear y new.0 new.1 i)
             (in_flight_after q (Deliver 0) u y refl i);
       }
 
@@ -433,7 +423,7 @@ module _ (q n : ℕ) (k : SenderKey) (t : TokenBucket) (w : World) (start : HasI
   bounds_now = start.paths.bounds
 
   abbrev call_turns : (m : ℕ) (f : Facts) → slice_get w.nodes m ≡ Some f → (outcome q (At n call) w m f ≡ still f) ⊎ Turns q (At n call) w m f
-  call_turns = called_turns q n call w bounds_now fit (says_as_before q n k t w sends)
+  call_turns = called_turns q n call w
 
   idle_for : (p : NodeConfig) (c : ℕ) (f : Facts) → has f.senders k ≡ true → IsIdleTurn p c (Call call) f
   idle_for p c f there = record {
@@ -464,12 +454,12 @@ module _ (q n : ℕ) (k : SenderKey) (t : TokenBucket) (w : World) (start : HasI
   quiet_begun : IsQuietBut q told_world told_world
   quiet_begun = record {
     telling = told;
-    same = (known_self q told_world told.bounds).same;
+    same = (known_self q told_world told.rooted.bounds).same;
     stands = λ m. refl;
     paths = λ y i.
         ⊎_elim (λ (old : In y w.flight). absurd (subst (In y) quiet old))
-        (λ (new : (b : Bool) × In (y, b) (sent q (At n call) w)). paths_sent q (At n call) w bounds_now call_turns call_idle told.no_tear y new.0 new.1 i)
-        (in_flight_then q n call w bounds_now fit (says_as_before q n k t w sends) y i);
+        (λ (new : (b : Bool) × In (y, b) (sent q (At n call) w)). paths_sent q (At n call) w bounds_now call_turns call_idle told.rooted.no_tear y new.0 new.1 i)
+        (in_flight_then q n call w y i);
   }
 
   abbrev later : World
@@ -492,7 +482,7 @@ module _ (q n : ℕ) (k : SenderKey) (t : TokenBucket) (w : World) (start : HasI
 
   settled_later : HasSettled q w → HasSettled q later
   settled_later before =
-      settled_still q w later before flows_later quiet_later.same.net (quiet_later.same.locals ∙ locals_same q n k t w sends bounds_now fit)
+      settled_still q w later before flows_later quiet_later.same.net (quiet_later.same.locals ∙ locals_same q n k t w sends)
       (λ m. quiet_later.stands m ∙ kept_there q (At n call) w bounds_now call_turns call_idle m) none_flies
 
 pub a_new_flow_leaves_reservations : (q n : ℕ) (k : SenderKey) (t : TokenBucket) (w : World) → AreBounds q w → AreHosts w → HasSettled q w → w.flight ≡ [] → IsSound t → SendsAt w n k

@@ -45,11 +45,11 @@ use Rattle.laws_network.proofs.Standing.{own_iface}
 use Rattle.settle_paths.proofs.LiveSenders.{senders_found}
 use Rattle.settle_passes.specs.Calls.{SendsAt, after_send}
 use Rattle.settle_passes.specs.Passes.{after_passes}
-use Rattle.settle_passes.proofs.Calls.{IsCalled, called, called_there}
+use Rattle.settle_passes.proofs.Called.{IsCalled, called, called_there, keys_alike}
 use Rattle.settle_senders.specs.Flows.{HasItsFlows, IsTelling}
-use Rattle.settle_senders.proofs.FlowCalls.{a_new_flow_is_said, keys_alike, put_has_same}
-use Rattle.settle_senders.proofs.FlowPasses.{same_after}
+use Rattle.settle_senders.proofs.FlowCalls.{a_new_flow_is_said, put_has_same}
 use Rattle.settle_senders.proofs.FlowsThere.{flows_are_set_up, flows_that_are_there_are_said}
+use Rattle.settle_senders.proofs.OfferPasses.{same_after}
 
 -- ---- the node that owns an address has an interface with it
 owner_found : (ends : List End) (a : Addr) (n : ℕ) → owner ends a ≡ Some n → (e : ℕ) × (x : End) × (slice_get ends e ≡ Some x) × (x.node ≡ n) × (is_addr x.iface.addr a ≡ true)
@@ -149,7 +149,7 @@ module _ (q n : ℕ) (k : SenderKey) (t : TokenBucket) (w : World) (start : HasI
   later = after_passes q (longest w.net) told_world
 
   same_later : IsSameNet told_world later
-  same_later = same_after q (longest w.net) told_world told
+  same_later = same_after q (longest w.net) told_world told.rooted
 
   kept_later : (j : SenderKey) (v : TokenBucket) (h : LinkHop) → IsLive told_world j v → In h (tree w.net.hops j.0.group j.1.addr) → IsPathAt later j v h
   kept_later j v h l there =

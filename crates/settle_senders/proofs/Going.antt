@@ -9,6 +9,7 @@ use Rattle.laws_bounds.proofs.Leaving.{forgetting_by_names, left_by_names}
 use Rattle.router_rules.specs.Act.{act, act_spelt, is_mine}
 use Rattle.router_rules.specs.Forgetting.{is_lost}
 use Rattle.settle_passes.proofs.Deliveries.{live_next, came_by_delivery, known_self}
+use Rattle.settle_passes.proofs.Arriving.{of_tear_item, touched}
 use Rattle.laws_steps.proofs.Asking.{what_keeps_a_reservation_fact}
 use Rattle.tree_model.proofs.WantLaws.{name_told, want_names}
 use Rattle.rsvp_base.specs.declared.part.Part.{Part}
@@ -23,10 +24,10 @@ use Rattle.rsvp_messages.specs.declared.message.Message.TheVariants as message
 use Rattle.rsvp_messages.specs.declared.message.ResvMsg.{ResvMsg}
 use Rattle.rsvp_messages.specs.Units.{ask_style, tear_names, tear_style}
 use Rattle.laws_bounds.proofs.Knowing.{known_and_via}
-use Rattle.laws_steps.specs.ReservationLaws.{Touches, TakesName, TouchesBy}
+use Rattle.laws_steps.specs.ReservationLaws.{TakesName}
 use Rattle.router_rules.specs.Facts.{Facts, SenderKey, resvs_of, ResvState, ResvTables, table_of}
-use Rattle.router_rules.specs.Inputs.{Spelt, Came, Input, Arrival, Unspelt, Change}
-use Rattle.router_rules.specs.Known.{known, named_as, Lane, lane_keys}
+use Rattle.router_rules.specs.Inputs.{Spelt, Came, Input, Arrival, Change}
+use Rattle.router_rules.specs.Known.{known, named_as}
 use Rattle.router_rules.specs.NodeConfig.{NodeConfig, own}
 use Rattle.router_rules.specs.Requests.{toward}
 use Rattle.router_rules.specs.Rule.{Outcome}
@@ -38,24 +39,21 @@ use Rattle.network_model.specs.Bounds.{AreBounds}
 use Rattle.network_model.specs.Steps.{outcome, still, Deliver, input_at, step}
 use Rattle.network_model.specs.Worlds.{Item, World, config_of}
 use Rattle.network_model.proofs.Stepping.{facts_after_made}
-use Rattle.laws_network.proofs.Known.{came_there, end_found, node_there}
+use Rattle.laws_network.proofs.Known.{came_there, node_there}
 use Rattle.settle_paths.proofs.PreviousHops.{ends_there}
 use Rattle.settle_resvs.specs.Said.{HopKey, resv_key, IsOver, hop_over, lane_of}
 use Rattle.settle_resvs.specs.SoftResvs.{line_key_of, AsksFor, SaysResv, resv_at}
 use Rattle.settle_resvs.proofs.SoftResvs.{resv_found, resv_made}
-use Rattle.std.specs.Ordering.{eq_by_cmp}
 use Rattle.rsvp_base.proofs.Members.{in_append}
 use Rattle.rsvp_base.proofs.SetLaws.{and_made, and_both, has-cut, has-kept}
-use Rattle.rsvp_base.proofs.Tables.{tied_self, either, tied_same}
 use Rattle.rsvp_messages.specs.declared.message.ResvTearMsg.{ResvTearMsg}
 use Rattle.style_rules.specs.Lines.{LineKey, is_of_hop}
 use Rattle.laws_bounds.proofs.Receiving.{resv_tears_by_names}
 use Rattle.laws_bounds.proofs.Ruling.{rule_in_parts}
 use Rattle.router_rules.specs.Asking.{act_resv_tear, names_one, stays, asker_of, matched}
 use Rattle.rsvp_base.specs.declared.addr.Addr.{Addr}
-use Rattle.rsvp_messages.specs.declared.message.Message.{Message}
 use Rattle.style_rules.specs.PartLaws.{same_part, part_at_most_told}
-use Rattle.tree_model.specs.Goals.{addr_of, DemandsFit}
+use Rattle.tree_model.specs.Goals.{DemandsFit}
 use Rattle.tree_model.proofs.Ifaces.{interfaces_are_ends}
 use Rattle.network_model.specs.Locals.{locals_of, IsLive}
 use Rattle.network_model.proofs.Machines.{in_arrived}
@@ -205,90 +203,6 @@ module _ (q : ℕ) (d : SenderKey) (flow : TokenBucket) (w u o : World) (was : I
   now_live : (s : Session) (kind : StyleKind) (x : Sender) → IsNameOfLive o s kind x → IsNameOfLive u s kind x
   now_live s kind x l = record { sender = l.sender; flow = l.flow; live = lives (s, l.sender) l.flow l.live; name = l.name }
 
-  -- a Resv that comes over the hop, or none does
-  pub of_item : (y : Item) → ((m : ResvMsg) × (y.arrival ≡ Spelt (message.Resv m)) × IsOver u.net k y m.session m.hop.addr (ask_style m.ask))
-      ⊎ ((m : ResvMsg) → y.arrival ≡ Spelt (message.Resv m) → IsOver u.net k y m.session m.hop.addr (ask_style m.ask) → ⊥)
-  of_item y = by y.arrival refl
-    where
-      wanted : Lane
-      wanted = record { session = k.session; style = k.style; hop = (k.to, addr_of u.net k.from) }
-
-      lane_in : ResvMsg → Lane
-      lane_in m = record { session = m.session; style = ask_style m.ask; hop = (y.end, m.hop.addr) }
-
-      by : (a : Arrival) → y.arrival ≡ a → ((m : ResvMsg) × (y.arrival ≡ Spelt (message.Resv m)) × IsOver u.net k y m.session m.hop.addr (ask_style m.ask))
-          ⊎ ((m : ResvMsg) → y.arrival ≡ Spelt (message.Resv m) → IsOver u.net k y m.session m.hop.addr (ask_style m.ask) → ⊥)
-      by (Spelt (message.Resv m)) e =
-          either (eq_by_cmp lane_keys.cmp (lane_in m) wanted)
-          (λ tied.
-          let is = tied_same lane_keys (lane_in m) wanted tied in
-          inl (
-            m,
-            e,
-            record {
-              end = ap (λ (z : Lane). z.hop.0) is;
-              session = ap (λ (z : Lane). z.session) is;
-              from = ap (λ (z : Lane). z.hop.1) is;
-              style = ap (λ (z : Lane). z.style) is;
-            },
-          ))
-          (λ apart. inr (λ m' e' o.
-          let one : Spelt (message.Resv m) ≡ Spelt (message.Resv m') = sym e ∙ e' in
-          let msg : m ≡ m' = cc in
-          let is : lane_in m' ≡ wanted = (λ j. record { session = o.session j; style = o.style j; hop = (o.end j, o.from j) }) in
-          let bad : true ≡ false = sym (ap (λ (z : Lane). eq_by_cmp lane_keys.cmp z wanted) is ∙ tied_self lane_keys wanted)
-          ∙ ap (λ (z : ResvMsg). eq_by_cmp lane_keys.cmp (lane_in z) wanted) (sym msg) ∙ apart in
-          cc))
-      by (Spelt (message.Path m)) e = inr (λ m' e' o. let bad : Spelt (message.Path m) ≡ Spelt (message.Resv m') = sym e ∙ e' in cc)
-      by (Spelt (message.PathErr m)) e = inr (λ m' e' o. let bad : Spelt (message.PathErr m) ≡ Spelt (message.Resv m') = sym e ∙ e' in cc)
-      by (Spelt (message.ResvErr m)) e = inr (λ m' e' o. let bad : Spelt (message.ResvErr m) ≡ Spelt (message.Resv m') = sym e ∙ e' in cc)
-      by (Spelt (message.PathTear m)) e = inr (λ m' e' o. let bad : Spelt (message.PathTear m) ≡ Spelt (message.Resv m') = sym e ∙ e' in cc)
-      by (Spelt (message.ResvTear m)) e = inr (λ m' e' o. let bad : Spelt (message.ResvTear m) ≡ Spelt (message.Resv m') = sym e ∙ e' in cc)
-      by (Spelt (message.ResvConf m)) e = inr (λ m' e' o. let bad : Spelt (message.ResvConf m) ≡ Spelt (message.Resv m') = sym e ∙ e' in cc)
-      by (Unspelt x) e = inr (λ m' e' o. let bad : Unspelt x ≡ Spelt (message.Resv m') = sym e ∙ e' in cc)
-
-  -- or a ResvTear does, or none
-  pub of_tear_item : (y : Item) → ((m : ResvTearMsg) × (y.arrival ≡ Spelt (message.ResvTear m)) × IsOver u.net k y m.session m.hop.addr (tear_style m.tear))
-      ⊎ ((m : ResvTearMsg) → y.arrival ≡ Spelt (message.ResvTear m) → IsOver u.net k y m.session m.hop.addr (tear_style m.tear) → ⊥)
-  of_tear_item y = by y.arrival refl
-    where
-      wanted : Lane
-      wanted = record { session = k.session; style = k.style; hop = (k.to, addr_of u.net k.from) }
-
-      lane_in : ResvTearMsg → Lane
-      lane_in m = record { session = m.session; style = tear_style m.tear; hop = (y.end, m.hop.addr) }
-
-      by : (a : Arrival) → y.arrival ≡ a → ((m : ResvTearMsg) × (y.arrival ≡ Spelt (message.ResvTear m)) × IsOver u.net k y m.session m.hop.addr (tear_style m.tear))
-          ⊎ ((m : ResvTearMsg) → y.arrival ≡ Spelt (message.ResvTear m) → IsOver u.net k y m.session m.hop.addr (tear_style m.tear) → ⊥)
-      by (Spelt (message.ResvTear m)) e =
-          either (eq_by_cmp lane_keys.cmp (lane_in m) wanted)
-          (λ tied.
-          let is = tied_same lane_keys (lane_in m) wanted tied in
-          inl (
-            m,
-            e,
-            record {
-              end = ap (λ (z : Lane). z.hop.0) is;
-              session = ap (λ (z : Lane). z.session) is;
-              from = ap (λ (z : Lane). z.hop.1) is;
-              style = ap (λ (z : Lane). z.style) is;
-            },
-          ))
-          (λ apart. inr (λ m' e' o.
-          let one : Spelt (message.ResvTear m) ≡ Spelt (message.ResvTear m') = sym e ∙ e' in
-          let msg : m ≡ m' = cc in
-          let is : lane_in m' ≡ wanted = (λ j. record { session = o.session j; style = o.style j; hop = (o.end j, o.from j) }) in
-          let bad : true ≡ false = sym (ap (λ (z : Lane). eq_by_cmp lane_keys.cmp z wanted) is ∙ tied_self lane_keys wanted)
-          ∙ ap (λ (z : ResvTearMsg). eq_by_cmp lane_keys.cmp (lane_in z) wanted) (sym msg) ∙ apart in
-          cc))
-      by (Spelt (message.Path m)) e = inr (λ m' e' o. let bad : Spelt (message.Path m) ≡ Spelt (message.ResvTear m') = sym e ∙ e' in cc)
-      by (Spelt (message.PathErr m)) e = inr (λ m' e' o. let bad : Spelt (message.PathErr m) ≡ Spelt (message.ResvTear m') = sym e ∙ e' in cc)
-      by (Spelt (message.ResvErr m)) e = inr (λ m' e' o. let bad : Spelt (message.ResvErr m) ≡ Spelt (message.ResvTear m') = sym e ∙ e' in cc)
-      by (Spelt (message.PathTear m)) e = inr (λ m' e' o. let bad : Spelt (message.PathTear m) ≡ Spelt (message.ResvTear m') = sym e ∙ e' in cc)
-      by (Spelt (message.Resv m)) e = inr (λ m' e' o. let bad : Spelt (message.Resv m) ≡ Spelt (message.ResvTear m') = sym e ∙ e' in cc)
-      by (Spelt (message.ResvConf m)) e = inr (λ m' e' o. let bad : Spelt (message.ResvConf m) ≡ Spelt (message.ResvTear m') = sym e ∙ e' in cc)
-      by (Unspelt x) e = inr (λ m' e' o. let bad : Unspelt x ≡ Spelt (message.ResvTear m') = sym e ∙ e' in cc)
-
   -- a Resv that asks for a part like it is taken
   pub asked_is_kept : (v : Part) (first : Sender) → has v.senders first ≡ true → Lives o k first → (y : Item) → slice_get u.flight 0 ≡ Some y → SaysLike o u.net k y v → IsKeptLike o next k v
   asked_is_kept v first named goes y arr says =
@@ -394,7 +308,11 @@ module _ (q : ℕ) (d : SenderKey) (flow : TokenBucket) (w u o : World) (was : I
       (λ (no : (m : ResvTearMsg) → t.item.arrival ≡ Spelt (message.ResvTear m) → IsOver u.net k t.item m.session m.hop.addr (tear_style m.tear) → ⊥).
       let lives_on : u.clock + 0 < c.resv.dies = (let z = ((bounds.facts n f.0 f.1).alive.resvs k.style key c.resv f.2).later in omega (arith, z)) in
       let y = what_keeps_a_reservation_fact.some (node_step p p u.clock (u.clock + 0) h.input f.0) (bounds.facts n f.0 f.1) k.style key c.resv f.2 lives_on
-      (untouched h.input t c.resv (λ m. no_resv t.item m t.arrives) no) first (in_resv first goes ∙ named) (known_still first (in_resv first goes ∙ named) goes) in
+      (λ touch.
+      ⊎_elim (λ (z : (m : ResvMsg) × (t.item.arrival ≡ Spelt (message.Resv m)) × IsOver u.net k t.item m.session m.hop.addr (ask_style m.ask)). no_resv t.item z.0 t.arrives z.1 z.2)
+      (λ (z : (m : ResvTearMsg) × (t.item.arrival ≡ Spelt (message.ResvTear m)) × IsOver u.net k t.item m.session m.hop.addr (tear_style m.tear) × TakesName m c.resv.part). no z.0 z.1 z.2)
+      (touched q u bounds k there c.resv.part (record { resv = c.resv; there = c.there; is = refl }) h.input t touch)) first (in_resv first goes ∙ named)
+      (known_still first (in_resv first goes ∙ named) goes) in
       let then_facts : Facts = facts_then p p (u.clock + 0) h.input f.0 in
       record {
         resv = y.0;
@@ -404,7 +322,7 @@ module _ (q : ℕ) (d : SenderKey) (flow : TokenBucket) (w u o : World) (was : I
         names = λ x i l. kept_some (λ (z : Sender). not (is_lost k.style f.0 then_facts k.session z)) c.resv y.0 y.2 x i (ap not (not_lost (has (named_as k.style (known f.0 k.session)) x)
             (known_still x i l)));
       })
-      (of_tear_item t.item))))
+      (of_tear_item q u bounds k there t.item))))
       (outcome_quiet q (Deliver 0) u n f.0 refl)
     where
       same_bool : (a b : Bool) → (a ≡ true → b ≡ true) → (b ≡ true → a ≡ true) → a ≡ b
@@ -415,27 +333,6 @@ module _ (q : ℕ) (d : SenderKey) (flow : TokenBucket) (w u o : World) (was : I
       not_lost : (a : Bool) {b : Bool} → b ≡ true → (a && not b) ≡ false
       not_lost true {b} e = ap not e
       not_lost false {b} e = refl
-
-      untouched : (i : Input) (t : IsCame (Deliver 0) u n i) (x : ResvState)
-          → ((m : ResvMsg) → t.item.arrival ≡ Spelt (message.Resv m) → IsOver u.net k t.item m.session m.hop.addr (ask_style m.ask) → ⊥)
-          → ((m : ResvTearMsg) → t.item.arrival ≡ Spelt (message.ResvTear m) → IsOver u.net k t.item m.session m.hop.addr (tear_style m.tear) → ⊥) → Touches i k.style key x → ⊥
-      untouched i t x no_resv no_tear touch = by t.item.arrival refl (subst (λ (z : Input). Touches z k.style key x) t.is touch)
-        where
-          end : iface_of u.net.ends t.item.end ≡ iface_of u.net.ends k.to → t.item.end ≡ k.to
-          end iface = end_found q u u (known_self q u bounds) k.to lt (Deliver 0) i t iface
-
-          by_message : (m : Message) → t.item.arrival ≡ Spelt m → TouchesBy (iface_of u.net.ends t.item.end) m k.style key x → ⊥
-          by_message (message.Resv m) e z = no_resv m e (record { end = end z.1; session = z.0; from = z.2; style = z.3 })
-          by_message (message.ResvTear m) e z = no_tear m e (record { end = end z.0.1; session = z.0.0; from = z.0.2; style = z.0.3 })
-          by_message (message.Path m) e z = z
-          by_message (message.PathErr m) e z = z
-          by_message (message.ResvErr m) e z = z
-          by_message (message.PathTear m) e z = z
-          by_message (message.ResvConf m) e z = z
-
-          by : (a : Arrival) → t.item.arrival ≡ a → Touches (Came (iface_of u.net.ends t.item.end) t.item.dst t.item.arrival) k.style key x → ⊥
-          by (Spelt m) e z = by_message m e (subst (λ (b : Arrival). Touches (Came (iface_of u.net.ends t.item.end) t.item.dst b) k.style key x) e z)
-          by (Unspelt b) e z = subst (λ (b : Arrival). Touches (Came (iface_of u.net.ends t.item.end) t.item.dst b) k.style key x) e z
 
       torn : (f : Facts) (i : Input) (x : ResvState) → get (resvs_of k.style f) key ≡ Some x → (first : Sender) → has x.part.senders first ≡ true → Lives o k first → (t : IsCame (Deliver 0) u n i)
           → (m : ResvTearMsg) → t.item.arrival ≡ Spelt (message.ResvTear m) → IsOver u.net k t.item m.session m.hop.addr (tear_style m.tear)

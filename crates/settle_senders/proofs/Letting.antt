@@ -1,10 +1,9 @@
 -- A host ends in a settled network in which nothing is in flight: what goes from each node stands, or is asked for, but for the sender.
-use Rattle.std.proofs.Common.{◌≡◌, ℕ, suc, ◌+◌, ◌*◌, ◌<◌, List, [], ◌∷◌, Bool, true, false, Option, None, Some, ◌⊎◌, inl, inr, ⊎_elim, arith, sym, refl, ap, subst, ◌∙◌}
-use Rattle.std.specs.Prelude.{slice_get, not, is_some, ◌&&◌, ◌||◌}
+use Rattle.std.proofs.Common.{◌≡◌, ℕ, suc, ◌+◌, ◌*◌, ◌<◌, List, [], ◌∷◌, Bool, true, false, None, Some, ◌⊎◌, inl, inr, ⊎_elim, arith, sym, refl, ap, subst, ◌∙◌}
+use Rattle.std.specs.Prelude.{slice_get, not, ◌&&◌}
 use Rattle.std.specs.List.{list_all}
-use Rattle.settle_senders.proofs.Sinking.{IsSinking, reservations_recede, sound_where_reserved}
 use Rattle.settle_senders.proofs.Wanted.{wants_named}
-use Rattle.settle_senders.proofs.Ending.{IsLettingGo, a_settled_network_takes_all, all_came, flow, kinds, lets_go, no_reservation_names_it, no_resv_names_it, turns_now, was, turns, ways_before}
+use Rattle.settle_senders.proofs.Ending.{IsLettingGo, a_settled_network_takes_all, all_came, flow, kinds, lets_go, names_live, no_reservation_names_it, no_resv_names_it, was, turns, ways_before}
 use Rattle.settle_senders.proofs.Going.{AllLike, AreAskedLike, IsKeptLike, Lives, all_like_append, last_like, last_like_behind, like_itself, kept_some, kept_less, IsKeptFor}
 use Rattle.settle_passes.proofs.Turns.{HaveWays, IsAskedBack, all_ask_back, stays_or_asked_back}
 use Rattle.settle_senders.proofs.Asked.{IsAsked, asked_next, asked_passes, asked_whole, plain, same_bool}
@@ -13,17 +12,16 @@ use Rattle.settle_senders.proofs.Refusing.{IsUnrefused, unrefused_next}
 use Rattle.settle_senders.proofs.Asking.{asks_next, paths_next}
 use Rattle.settle_passes.proofs.Serving.{settled_is_reserved}
 use Rattle.settle_passes.proofs.Reserving.{some_asks}
-use Rattle.settle_passes.specs.Reserving.{AllAsk, AreAskedFor, HasReserved, IsAskedLast, IsKeptOver}
+use Rattle.settle_passes.specs.Reserving.{AllAsk, HasReserved, IsAskedLast, IsKeptOver}
 use Rattle.settle_passes.proofs.Turns.{Turns, news}
 use Rattle.tree_model.specs.Ranks.{has_hop, longest, rank}
 use Rattle.network_model.specs.Bounds.{IsStart}
 use Rattle.network_model.specs.Sound.{AreResvsSound, HasNoFlowError, TakesAll}
 use Rattle.settle_resvs.specs.Sessions.{AreExactOf}
-use Rattle.settle_releases.proofs.Releasing.{unless_same}
 use Rattle.settle_senders.proofs.Serving.{passes_sum}
 use Rattle.tree_model.proofs.WantLaws.{name_made, name_told, want_names}
-use Rattle.tree_model.specs.Wants.{goes_over, live, names}
-use Rattle.tree_model.specs.Goals.{demand_of}
+use Rattle.tree_model.specs.Wants.{goes_over, live, names, want}
+use Rattle.tree_model.specs.Goals.{demand_of, addr_of}
 use Rattle.rsvp_base.specs.declared.part.Part.{Part}
 use Rattle.rsvp_base.specs.declared.session.Sender.{Sender}
 use Rattle.rsvp_base.specs.declared.session.Session.{Session}
@@ -35,20 +33,19 @@ use Rattle.rsvp_base.proofs.Members.{in_each}
 use Rattle.rsvp_base.proofs.SetLaws.{and_both}
 use Rattle.rsvp_base.proofs.Tables.{same_table}
 use Rattle.style_rules.specs.Lines.{LineKey}
-use Rattle.style_rules.specs.Parts.{IsPartAtMost}
 use Rattle.router_rules.specs.Books.{book}
-use Rattle.router_rules.specs.Facts.{Facts, Want, resvs_of, SenderKey, PathState}
+use Rattle.router_rules.specs.Facts.{Facts, resvs_of, SenderKey}
 use Rattle.router_rules.specs.Forgetting.{is_lost}
 use Rattle.router_rules.specs.Inputs.{Call, DropAs, Local}
 use Rattle.router_rules.specs.Known.{known, named_as}
 use Rattle.router_rules.specs.NodeConfig.{NodeConfig}
 use Rattle.router_rules.specs.Requests.{toward}
-use Rattle.laws_bounds.proofs.Knowing.{known_and_via, has-known}
+use Rattle.laws_bounds.proofs.Knowing.{known_and_via}
+use Rattle.laws_bounds.proofs.Lists.{one_name}
 use Rattle.router_rules.specs.Steps.{facts_then, node_step}
 use Rattle.rsvp_base.specs.declared.addr.Addr.{Addr}
-use Rattle.rsvp_base.specs.Styles.{name_of}
 use Rattle.rsvp_base.specs.TokenBucket.{TokenBucket}
-use Rattle.style_rules.specs.PartLaws.{part_at_most_told, part_at_most_itself}
+use Rattle.style_rules.specs.PartLaws.{part_at_most_told}
 use Rattle.router_rules.specs.Rule.{Outcome}
 use Rattle.tree_model.specs.declared.locals.LocalWant.{LocalWant}
 use Rattle.tree_model.specs.Networks.{Net, iface_of, node_of}
@@ -56,13 +53,11 @@ use Rattle.tree_model.specs.Trees.{outward, tree}
 use Rattle.tree_model.proofs.Following.{has_hop_in}
 use Rattle.tree_model.proofs.Ifaces.{interfaces_are_ends}
 use Rattle.tree_model.proofs.TreeLaws.{out_tested, the_root_has_no_inward}
-use Rattle.network_model.specs.Locals.{IsLive, locals_of, want_at}
+use Rattle.network_model.specs.Locals.{IsLive, locals_of}
 use Rattle.network_model.specs.Steps.{Step, is_quiet, ms_of, still, outcome, Deliver, step, sent, At}
 use Rattle.network_model.specs.Worlds.{Item, World, config_of}
-use Rattle.network_model.proofs.NodeLocals.{node_wants, is_live, want_of_node}
-use Rattle.laws_network.proofs.Known.{of_some, has_some}
 use Rattle.settle_senders.specs.Ending.{IsNameOfLive, AreAsksOfLive, AreNamesLive}
-use Rattle.settle_passes.proofs.Growing.{HasNoLess}
+use Rattle.settle_passes.proofs.Growing.{HasNoLess, still_wanted}
 use Rattle.network_model.proofs.Stepping.{facts_after_made, facts_after_found}
 use Rattle.settle_resvs.specs.Said.{HopKey, resv_key, lane_of}
 use Rattle.settle_resvs.specs.SoftResvs.{line_key_of}
@@ -70,18 +65,19 @@ use Rattle.settle_resvs.proofs.SoftResvs.{resv_found, resv_made}
 use Rattle.settle_resvs.specs.Laws.{AreWantParts}
 use Rattle.settle_passes.specs.Passes.{after_passes}
 use Rattle.settle_passes.specs.Calls.{HasItsPaths, SendsAt, after_drop}
+use Rattle.settle_passes.proofs.Called.{IsCalled, called, turns as called_turns, wants_same}
 use Rattle.style_rules.specs.Merge.{PartTable}
-use Rattle.router_rules.specs.Calls.{call_refusal, unless}
+use Rattle.style_rules.specs.CutLaws.{name_some}
 use Rattle.settle_senders.proofs.TakenFor.{known_of_live, same_addr}
 use Rattle.laws_steps.proofs.Asking.{what_keeps_a_reservation_fact}
-use Rattle.settle_paths.proofs.PreviousHops.{live_among}
+use Rattle.settle_paths.proofs.PreviousHops.{live_among, ends_there, same_by_addr}
 use Rattle.settle_network.specs.Settled.{HasSettled}
 use Rattle.tree_model.specs.declared.hops.LinkHop.{LinkHop}
-use Rattle.laws_bounds.proofs.Framing.{wants_then}
 use Rattle.laws_network.specs.Known.{IsSameNet}
+use Rattle.laws_network.proofs.Standing.{same_end}
 use Rattle.settle_resvs.proofs.WantStyles.{want_parts}
-use Rattle.settle_passes.proofs.Calls.{IsCalled, called}
 use Rattle.settle_network.proofs.Reports.{entries_are_the_demand}
+use Rattle.settle_releases.proofs.Sinking.{IsSinking, reservations_sink, sound_when_sunk}
 
 module _ (q n : ℕ) (d : SenderKey) (w : World) (begins : IsStart q w) (settled : HasSettled q w) (quiet : w.flight ≡ []) (sends : SendsAt w n d) where
   abbrev begun : World
@@ -93,20 +89,20 @@ module _ (q n : ℕ) (d : SenderKey) (w : World) (begins : IsStart q w) (settled
   st' : HasItsPaths q w
   st' = start q n d w begins settled quiet sends
 
-  abbrev flow_now : TokenBucket
+  abbrev pub flow_now : TokenBucket
   flow_now = (flow q n d w (start q n d w begins settled quiet sends) settled.resvs_sound sends (silent q n d w begins settled quiet sends) (mute q n d w begins settled quiet sends)).0
 
-  abbrev was_now : IsLive w d flow_now
+  abbrev pub was_now : IsLive w d flow_now
   was_now = was q n d w (start q n d w begins settled quiet sends) settled.resvs_sound sends (silent q n d w begins settled quiet sends) (mute q n d w begins settled quiet sends)
 
-  abbrev kinds_now : AreWantParts (locals_of w)
+  abbrev pub kinds_now : AreWantParts (locals_of w)
   kinds_now = kinds q n d w (start q n d w begins settled quiet sends) settled.resvs_sound sends (silent q n d w begins settled quiet sends) (mute q n d w begins settled quiet sends)
 
-  going_now : IsLettingGo q d w begun
+  pub going_now : IsLettingGo q d w begun
   going_now = lets_go q n d w (start q n d w begins settled quiet sends) settled.resvs_sound sends (silent q n d w begins settled quiet sends) (mute q n d w begins settled quiet sends)
 
   turn : (m : ℕ) (f : Facts) → slice_get w.nodes m ≡ Some f → (outcome q (At n call) w m f ≡ still f) ⊎ Turns q (At n call) w m f
-  turn = turns_now q n d w (start q n d w begins settled quiet sends) settled.resvs_sound sends (silent q n d w begins settled quiet sends) (mute q n d w begins settled quiet sends)
+  turn = called_turns q n call w
 
   ways : HaveWays begun
   ways = ways_before w begun (all_came q d flow_now w begun was_now going_now.fading going_now.lived)
@@ -201,53 +197,21 @@ module _ (q n : ℕ) (d : SenderKey) (w : World) (begins : IsStart q w) (settled
 
   -- what is wanted locally is what was
   wants_begun : (x : LocalWant) → In x (locals_of w).wants → HasNoLess (locals_of begun).wants x
-  wants_begun x i =
-      let r = want_of_node w x i in
-      let p : NodeConfig = config_of q w.net w.trees x.node in
-      let c : ℕ = w.clock + ms_of (At n call) in
-      let f : Facts = r.0 in
-      let y : (y : Want) × (get (outcome q (At n call) w x.node f).facts.wants r.1 ≡ Some y) × (y.style ≡ r.2.style) × (r.2.part ≡ y.part) =
-      ⊎_elim (λ (z : outcome q (At n call) w x.node f ≡ still f). (r.2, ap (λ (o : Outcome). get o.facts.wants r.1) z ∙ r.4, refl, refl))
-      (λ (h : IsCalled q w n call x.node f).
-      let marks = wants_then p p c (Call call) f in
-      let same : get (unless (call_refusal p call f) f.wants f.wants) r.1 ≡ Some r.2 = ap (λ (z : _). get z r.1) (unless_same (call_refusal p call f) f.wants) ∙ r.4 in
-      let z = has_some (get (facts_then p p c (Call call) f).wants r.1) (marks.there r.1 ∙ ap (λ (o : Option Want). is_some o) same) in
-      let b = marks.source r.1 z.0 z.1 in
-      let is : b.0 ≡ r.2 = of_some b.0 r.2 (sym b.1 ∙ same) in
-      (z.0, ap (λ (o : Outcome). get o.facts.wants r.1) h.is ∙ z.1, b.2.style ∙ ap (λ (v : Want). v.style) is, sym (b.2.part ∙ ap (λ (v : Want). v.part) is)))
-      (called q w n call x.node f) in
-      record {
-        want = want_at x.node (r.1, y.0);
-        among = node_wants begun x.node (outcome q (At n call) w x.node f).facts r.1 y.0 (facts_after_made q (At n call) w x.node f r.3) y.1;
-        node = refl;
-        session = ap (λ (z : LocalWant). z.session) (sym r.5);
-        style = y.2 ∙ ap (λ (z : LocalWant). z.style) (sym r.5);
-        part = subst (λ (z : Part). IsPartAtMost z y.0.part) (sym y.3 ∙ ap (λ (z : LocalWant). z.part) (sym r.5)) (part_at_most_itself y.0.part);
-      }
+  wants_begun = still_wanted (locals_of w).wants (locals_of begun).wants (sym (wants_same q n call w refl))
 
   asked_then : (i : ℕ) → IsAsked q d flow_now w begun was_now kinds_now begins.fit (after_passes q i begun)
   asked_then i =
       asked_passes q d flow_now w begun was_now kinds_now begins.fit i begun
       (record { going = going_now; net = refl; lives = λ k t l. l; back = λ k t l. l; like = like_begun; wants = wants_begun })
 
-  pub what_goes_then_is_asked_for : (i : ℕ) (s : Session) → AreAskedFor q s (after_passes q (longest w.net + suc i) begun)
-  what_goes_then_is_asked_for i s =
-      let u : World = after_passes q (longest w.net + suc i) begun in
-      let r = asked_then (longest w.net + suc i) in
-      let z = no_reservation_names_it q n d w (start q n d w begins settled quiet sends) settled.resvs_sound sends (silent q n d w begins settled quiet sends)
-      (mute q n d w begins settled quiet sends) (suc i) in
-      asked_whole q begun u z.0
-      (no_resv_names_it q n d w (start q n d w begins settled quiet sends) settled.resvs_sound sends (silent q n d w begins settled quiet sends) (mute q n d w begins settled quiet sends) i)
-      z.1 r.back (λ y m v j spelt asks. let x = r.going.within.items y m v j spelt asks in (x.names, x.named)) r.like s
-
   -- ---- and falls to what is wanted
-  record IsLetDown (u : World) : Type 0 where
-    asked : IsAsked q d flow_now w begun was_now kinds_now begins.fit u
-    unrefused : IsUnrefused q d flow_now w was_now kinds_now begins.fit u
-    paths : HasItsPaths q u
-    asks : AreAsksOfLive u
+  pub record IsLetDown (u : World) : Type 0 where
+    pub asked : IsAsked q d flow_now w begun was_now kinds_now begins.fit u
+    pub unrefused : IsUnrefused q d flow_now w was_now kinds_now begins.fit u
+    pub paths : HasItsPaths q u
+    pub asks : AreAsksOfLive u
 
-  let_down_next : (u : World) → IsLetDown u → IsLetDown (step q (Deliver 0) u)
+  pub let_down_next : (u : World) → IsLetDown u → IsLetDown (step q (Deliver 0) u)
   let_down_next u r = record {
     asked = asked_next q d flow_now w begun was_now kinds_now begins.fit u r.asked;
     unrefused = unrefused_next q d flow_now w was_now kinds_now begins.fit u r.unrefused;
@@ -255,7 +219,7 @@ module _ (q n : ℕ) (d : SenderKey) (w : World) (begins : IsStart q w) (settled
     asks = asks_next q u r.paths r.asks;
   }
 
-  let_down : (i : ℕ) → IsLetDown (after_passes q (longest w.net + suc i) begun)
+  pub let_down : (i : ℕ) → IsLetDown (after_passes q (longest w.net + suc i) begun)
   let_down i = record {
     asked = asked_then (longest w.net + suc i);
     unrefused = unrefused q n d w begins settled quiet sends (longest w.net + suc i);
@@ -264,16 +228,8 @@ module _ (q n : ℕ) (d : SenderKey) (w : World) (begins : IsStart q w) (settled
     asks = no_resv_names_it q n d w (start q n d w begins settled quiet sends) settled.resvs_sound sends (silent q n d w begins settled quiet sends) (mute q n d w begins settled quiet sends) i;
   }
 
-  live_by : (u : World) → HasItsPaths q u → (m : ℕ) (f : Facts) → slice_get u.nodes m ≡ Some f → (s : Session) (st : StyleKind) (x y : Sender) → x ≡ name_of st y
-      → (o : Option TokenBucket) (p : Option PathState) → get f.senders (s, y) ≡ o → get f.paths (s, y) ≡ p → (has f.senders (s, y) || has f.paths (s, y)) ≡ true → IsNameOfLive u s st x
-  live_by u has m f at s st x y name (Some t) p e g sure = record { sender = y; flow = t; live = is_live u m f (s, y) t at e; name = name }
-  live_by u has m f at s st x y name None (Some p) e g sure = record { sender = y; flow = p.tspec; live = (has.sound.facts m f (s, y) p at g).sound.live; name = name }
-  live_by u has m f at s st x y name None None e g sure = let bad : true ≡ false = sym sure ∙ (λ i. is_some (e i) || is_some (g i)) in absurd (cc)
-
   names_live_in : (u : World) → IsLetDown u → AreNamesLive u
-  names_live_in u r st m f k y x at e named =
-      let z = (known_and_via.named_by st (known f k.0) x).0 (r.asked.going.names m f at st k y x e named) in
-      live_by u r.paths m f at k.0 st x z.sender z.name (get f.senders (k.0, z.sender)) (get f.paths (k.0, z.sender)) refl refl (sym (has-known f k.0 z.sender) ∙ z.among)
+  names_live_in u r = names_live q d w u r.asked.going r.paths
 
   names_on : (u : World) → IsLetDown u → (st : StyleKind) (c : Session) (x : Sender) → IsNameOfLive u c st x → (hs : List LinkHop) → has (names st u.net (locals_of w) c hs) x ≡ true
       → has (names st u.net (locals_of u) c hs) x ≡ true
@@ -284,7 +240,7 @@ module _ (q n : ℕ) (d : SenderKey) (w : World) (begins : IsStart q w) (settled
       subst (λ (z : Sender). has (names st u.net (locals_of u) c hs) z ≡ true) (sym b.name)
       (name_made st u.net (locals_of u) c hs b.sender (live_among u c b.sender b.flow b.live) over)
 
-  sinks : (s : Session) (u : World) → IsLetDown u → IsSinking q s w u
+  pub sinks : (s : Session) (u : World) → IsLetDown u → IsSinking q s w.nodes u
   sinks s u r = record {
     paths = r.paths;
     within = r.asked.going.within;
@@ -292,12 +248,22 @@ module _ (q n : ℕ) (d : SenderKey) (w : World) (begins : IsStart q w) (settled
     asked = asked_whole q begun u r.paths r.asks (names_live_in u r) r.asked.back
         (λ y m v j spelt asks. let x = r.asked.going.within.items y m v j spelt asks in (x.names, x.named)) r.asked.like s;
     turns = turns q d flow_now w u was_now kinds_now r.asked.going;
-    names_live = names_live_in u r;
-    names_over = λ st c h x i b. names_on u r st c x b (h ∷ []) i;
-    wanted_still = λ st h un p x e named b.
-        let z = wants_named st u.net r.paths.bounds.net.loop_free (locals_of w) (locals_of u) s kinds_now (want_parts q u r.paths.bounds) r.asked.wants x (names_on u r st s x b)
-        (rank u.net s.group h) h (omega arith) un p e named in
-        (z.0, z.1);
+    named = λ st m f k x h z at e i was. names_on u r st k.0 z (names_live_in u r st m f k x z at e i) (h ∷ []) was;
+    left_over = λ st h un f g x there at e node none wanted.
+        let y = r.asked.going.within.facts st (node_of u.net.ends h.from) f (s, ((iface_of u.net.ends h.from, addr_of u.net h.to), un)) x at e in
+        let inside = ends_there u.net r.paths.bounds.net s.group h there in
+        let theirs = ends_there u.net r.paths.bounds.net s.group y.sound.hop y.sound.there in
+        let of = (interfaces_are_ends u.net).iface_of_end (node_of u.net.ends h.from) (iface_of u.net.ends h.from) y.end y.at in
+        let from : y.sound.hop.from ≡ h.from = y.sound.from ∙ same_end u.net y.end h.from of.0 inside.0 of.1 of.2 in
+        let to : y.sound.hop.to ≡ h.to = same_by_addr u.net r.paths.bounds.net y.sound.hop.to h.to theirs.1 inside.1 y.sound.to in
+        let same : y.sound.hop ≡ h = (λ j. record { from = from j; to = to j }) in
+        let up = part_at_most_told x.part y.sound.wanted y.sound.below in
+        let first = one_name x.part.senders (name_some x.part.senders y.sound.some) in
+        let live = names_live_in u r st (node_of u.net.ends h.from) f (s, ((iface_of u.net.ends h.from, addr_of u.net h.to), un)) x first.0 at e first.1 in
+        let z = wants_named st u.net r.paths.bounds.net.loop_free (locals_of w) (locals_of u) s kinds_now (want_parts q u r.paths.bounds) r.asked.wants first.0 (names_on u r st s first.0 live)
+        (rank u.net s.group h) h (omega arith) un y.sound.wanted (ap (λ (z : LinkHop). get (want st u.net (locals_of w) s z) un) (sym same) ∙ y.sound.is) (up.names first.0 first.1) in
+        let bad : None ≡ Some z.0 = sym wanted ∙ z.1 in
+        absurd (cc);
   }
 
   settled_then : (i : ℕ) → HasSettled q (after_passes q (2 * longest w.net + suc i) begun)
@@ -305,11 +271,11 @@ module _ (q n : ℕ) (d : SenderKey) (w : World) (begins : IsStart q w) (settled
       let u : World = after_passes q (longest w.net + suc i) begun in
       let v : World = after_passes q (longest u.net) u in
       let r : (s : Session) → IsLetDown v × HasReserved s v × IsSameNet u v =
-      (λ s. reservations_recede q s w IsLetDown (sinks s) let_down_next u (let_down i)) in
+      (λ s. reservations_sink q s w.nodes IsLetDown (sinks s) let_down_next u (let_down i)) in
       let one : IsLetDown v = (r some_session).0 in
       let exact : (s : Session) → AreExactOf s v = (λ s. (r s).1.exact) in
       let sound : AreResvsSound v = record {
-        facts = λ st m f k x at e. sound_where_reserved q k.0 w IsLetDown (sinks k.0) let_down_next v one (exact k.0) st m f k x at e refl;
+        facts = λ st m f k x at e. sound_when_sunk q k.0 w.nodes IsLetDown (sinks k.0) let_down_next v one (exact k.0) st m f k x at e refl;
         items = λ y m un j spelt asks. absurd ((r m.session).1.no_resv y m j spelt refl);
       } in
       let net : u.net ≡ w.net = one_net u (let_down i) in

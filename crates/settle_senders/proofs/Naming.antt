@@ -29,7 +29,7 @@ use Rattle.network_model.specs.Steps.{At, Deliver, input_at, ms_of, outcome, ste
 use Rattle.network_model.specs.Worlds.{World, config_of}
 use Rattle.network_model.proofs.Quiet.{FollowsRule, outcome_quiet}
 use Rattle.network_model.proofs.Stepping.{facts_after_found}
-use Rattle.settle_passes.proofs.Calls.{IsCalled, called}
+use Rattle.settle_passes.proofs.Called.{IsCalled, called}
 
 -- each name of a reservation is one of a sender that the node knows
 abbrev pub KnowsNames : Facts → Type 0

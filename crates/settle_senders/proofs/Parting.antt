@@ -1,5 +1,5 @@
 -- When a sender has ended: what is set and said no more, of a settled network in which nothing is in flight.
-use Rattle.std.proofs.Common.{◌≡◌, true, ℕ, suc, ◌+◌, ◌*◌, List, [], ◌∷◌, length, Option, None, Some, inl, arith, sym, refl, ap, subst, ◌∙◌, zero, Bool, inr, ⊎_elim}
+use Rattle.std.proofs.Common.{◌≡◌, ℕ, suc, ◌+◌, ◌*◌, List, [], ◌∷◌, length, Option, None, Some, inl, arith, sym, refl, ap, subst, ◌∙◌, zero, Bool, inr, ⊎_elim}
 use Rattle.std.specs.Prelude.{slice_get}
 use Rattle.rsvp_base.specs.Members.{In}
 use Rattle.rsvp_base.specs.Table.{get, size}
@@ -12,23 +12,21 @@ use Rattle.style_rules.specs.Targets.{WallKey, wall_keys}
 use Rattle.tree_model.specs.Goals.{addr_of}
 use Rattle.tree_model.specs.Ranks.{longest}
 use Rattle.network_model.specs.Bounds.{IsStart}
-use Rattle.network_model.specs.Sound.{HasNoFlowError, IsFreeOfBlockade}
-use Rattle.network_model.specs.Steps.{Deliver, Step, is_quiet, step, At, ms_of, sent}
+use Rattle.network_model.specs.Sound.{HasNoFlowError}
+use Rattle.network_model.specs.Steps.{Deliver, step, At, ms_of, sent}
 use Rattle.network_model.specs.Worlds.{Item, World, config_of}
 use Rattle.settle_network.specs.Settled.{HasSettled}
 use Rattle.settle_passes.specs.Calls.{HasItsPaths, HasNoPathOf, SendsAt, after_drop}
 use Rattle.settle_passes.specs.Passes.{after_passes}
 use Rattle.settle_passes.proofs.Deliveries.{known_self, same_next}
 use Rattle.settle_senders.proofs.Serving.{net_stays, passes_sum}
-use Rattle.settle_senders.specs.Ending.{AreAsksOfLive, SetNoBlockade, TakesForLive}
+use Rattle.settle_senders.specs.Ending.{AreAsksOfLive, SetNoBlockade}
 use Rattle.settle_senders.proofs.Asking.{asks_next, paths_next}
 use Rattle.settle_senders.proofs.Ending.{IsLettingGo, flow, forgotten, in_flight_now, kinds, lets_go, letting_go_next, no_resv_names_it, settled_has_paths, taken_then, then_on, was}
 use Rattle.settle_senders.proofs.Back.{refusal_along}
-use Rattle.settle_senders.proofs.TakenFor.{takes_for_live}
 use Rattle.settle_senders.proofs.Erring.{low_after, none_left, passed_on, AreAllLow, along, low_more}
 use Rattle.settle_senders.proofs.Refusing.{IsUnrefused, free_begun, mild_begun, unrefused_after, unrefused_next}
 use Rattle.settle_resvs.proofs.Errors.{IsAlong}
-use Rattle.settle_passes.proofs.Calls.{sent_by_call}
 use Rattle.network_model.specs.Events.{pass, passes}
 use Rattle.tree_model.specs.Networks.{Net}
 use Rattle.laws_network.proofs.Sends.{sent_by_rule}
@@ -39,6 +37,7 @@ use Rattle.router_rules.specs.Steps.{node_step}
 use Rattle.network_model.specs.Locals.{locals_of}
 use Rattle.network_model.proofs.Machines.{in_flight_after}
 use Rattle.settle_passes.proofs.Spreading.{after_deliveries, run_then}
+use Rattle.settle_passes.proofs.Called.{sent_by_call}
 
 -- ---- no blockade, of all sessions and of each
 pub no_rows : (walls : Walls) → ((k : WallKey) → get walls k ≡ None) → size walls ≡ 0
@@ -74,7 +73,7 @@ module _ (q n : ℕ) (d : SenderKey) (w : World) (begins : IsStart q w) (settled
   pub mute : (y : Item) (m : ResvMsg) → In y w.flight → y.arrival ≡ Spelt (message.Resv m) → y.dst ≡ addr_of w.net y.end
   mute y m j = absurd (subst (λ (z : List Item). In y z) quiet j)
 
-  abbrev Unrefused : World → Type 0
+  abbrev pub Unrefused : World → Type 0
   Unrefused u = IsUnrefused q d (flow q n d w start settled.resvs_sound sends silent mute).0 w (was q n d w start settled.resvs_sound sends silent mute)
       (kinds q n d w start settled.resvs_sound sends silent mute) begins.fit u
 
@@ -84,7 +83,7 @@ module _ (q n : ℕ) (d : SenderKey) (w : World) (begins : IsStart q w) (settled
   free : (m : ℕ) (f : Facts) (k : WallKey) → slice_get w.nodes m ≡ Some f → get f.walls k ≡ None
   free m f k at = no_wall f.walls (settled.no_blockade.walls m f at) k
 
-  unrefused_begun : Unrefused begun
+  pub unrefused_begun : Unrefused begun
   unrefused_begun = record {
     going = lets_go q n d w start settled.resvs_sound sends silent mute;
     net = refl;
@@ -97,19 +96,14 @@ module _ (q n : ℕ) (d : SenderKey) (w : World) (begins : IsStart q w) (settled
       unrefused_after q d (flow q n d w start settled.resvs_sound sends silent mute).0 w (was q n d w start settled.resvs_sound sends silent mute)
       (kinds q n d w start settled.resvs_sound sends silent mute) begins.fit i begun unrefused_begun
 
-  pub a_sender_that_ends_sets_no_blockade : (i : ℕ) → SetNoBlockade (after_passes q i begun) × IsFreeOfBlockade (after_passes q i begun)
-  a_sender_that_ends_sets_no_blockade i =
-      let r = unrefused i in
-      (r.mild, record { walls = λ m f at. no_rows f.walls (λ k. r.free m f k at) })
-
   -- ---- once each Resv is taken whole
-  record IsLetGo (u : World) : Type 0 where
-    going : IsLettingGo q d w u
-    net : u.net ≡ w.net
-    paths : HasItsPaths q u
-    asks : AreAsksOfLive u
+  pub record IsLetGo (u : World) : Type 0 where
+    pub going : IsLettingGo q d w u
+    pub net : u.net ≡ w.net
+    pub paths : HasItsPaths q u
+    pub asks : AreAsksOfLive u
 
-  let_go_next : (u : World) → IsLetGo u → IsLetGo (step q (Deliver 0) u)
+  pub let_go_next : (u : World) → IsLetGo u → IsLetGo (step q (Deliver 0) u)
   let_go_next u r = record {
     going = letting_go_next q d (flow q n d w start settled.resvs_sound sends silent mute).0 w u (was q n d w start settled.resvs_sound sends silent mute)
         (kinds q n d w start settled.resvs_sound sends silent mute) r.going;
@@ -118,7 +112,7 @@ module _ (q n : ℕ) (d : SenderKey) (w : World) (begins : IsStart q w) (settled
     asks = asks_next q u r.paths r.asks;
   }
 
-  let_go : (i : ℕ) → IsLetGo (after_passes q (longest w.net + suc i) begun)
+  pub let_go : (i : ℕ) → IsLetGo (after_passes q (longest w.net + suc i) begun)
   let_go i = record {
     going = then_on q n d w start settled.resvs_sound sends silent mute (longest w.net + suc i);
     net = net_stays q (longest w.net + suc i) begun;
@@ -160,7 +154,7 @@ module _ (q n : ℕ) (d : SenderKey) (w : World) (begins : IsStart q w) (settled
       (where_an_error_with_a_flow_comes_from.source (node_step p p u.clock (u.clock + 0) s.by.input s.facts) (r.going.fading.bounds.facts s.node s.facts s.there) s.send m t s.sent s.says has_flow)))
       (in_flight_after q (Deliver 0) u y refl i)
 
-  abbrev Next : (u : World) → Unrefused u → Unrefused (step q (Deliver 0) u)
+  abbrev pub Next : (u : World) → Unrefused u → Unrefused (step q (Deliver 0) u)
   Next u r =
       unrefused_next q d (flow q n d w start settled.resvs_sound sends silent mute).0 w (was q n d w start settled.resvs_sound sends silent mute)
       (kinds q n d w start settled.resvs_sound sends silent mute) begins.fit u r
@@ -191,8 +185,3 @@ module _ (q n : ℕ) (d : SenderKey) (w : World) (begins : IsStart q w) (settled
       (none_left q d w IsLetGo let_go_next (λ v r. r.net)
       (λ v r j. passed_on q d w v r.going (λ y m f. taken_then q n d w start settled.resvs_sound sends silent mute v r.going r.paths r.asks r.net begins.fit y m f) j)
       begins.bounds.net.loop_free (after_passes q (longest w.net) u) low))
-
-  pub what_is_asked_for_others_is_taken : (i : ℕ) (t : Step) → is_quiet t ≡ true → TakesForLive q t (after_passes q i begun)
-  what_is_asked_for_others_is_taken i t quiet_one =
-      let r = unrefused i in
-      takes_for_live q d w (after_passes q i begun) r.going r.net begins.fit t quiet_one

@@ -56,11 +56,11 @@ use Rattle.settle_resvs.proofs.GoalByIface.{each_fits, session_can_be_held}
 use Rattle.settle_resvs.proofs.UnderTheGoal.{has_place, sound_under}
 use Rattle.settle_passes.specs.Calls.{after_drop}
 use Rattle.settle_passes.specs.Passes.{after_passes}
-use Rattle.settle_passes.proofs.Calls.{IsCalled, called, sent_by_call}
 use Rattle.settle_passes.proofs.Deliveries.{came_by_delivery, known_self, same_next}
 use Rattle.settle_passes.proofs.Fitting.{as_before}
 use Rattle.settle_passes.proofs.SoundParts.{sound_cut}
 use Rattle.settle_passes.proofs.Spreading.{after_deliveries, run_then}
+use Rattle.settle_passes.proofs.Called.{IsCalled, called, sent_by_call}
 use Rattle.settle_releases.proofs.Accepting.{AreResvsWithin, some_unit}
 use Rattle.settle_senders.specs.Ending.{SetNoBlockade}
 use Rattle.settle_senders.proofs.Ending.{IsLettingGo, letting_go_next}

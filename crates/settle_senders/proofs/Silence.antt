@@ -1,20 +1,15 @@
 -- Nothing is in flight in the end, where nobody waits to be confirmed: Paths go one hop further with each pass, and each ResvTear takes a
 -- name of what is wanted over its hop, so that the last are taken when reservations stand.
-use Rattle.std.proofs.Common.{◌≡◌, ℕ, zero, suc, ◌+◌, ◌*◌, ◌≤◌, List, [], ◌++◌, length, Bool, true, false, cond, Option, None, Some, ◌⊎◌, inl, inr, ⊎_elim, arith, sym, refl, ap, subst, ◌∙◌, drop}
-use Rattle.std.specs.Prelude.{slice_get, not, map as each}
-use Rattle.std.specs.List.{remove}
-use Rattle.std.specs.Option.{option_map}
+use Rattle.std.proofs.Common.{◌≡◌, ℕ, zero, suc, ◌*◌, List, [], ◌++◌, length, Bool, true, false, Option, None, Some, ◌⊎◌, inl, inr, ⊎_elim, arith, sym, refl, ap, subst, ◌∙◌}
+use Rattle.std.specs.Prelude.{slice_get, not}
 use Rattle.rsvp_base.specs.declared.addr.Addr.{Addr}
 use Rattle.rsvp_base.specs.declared.part.Part.{Part}
 use Rattle.rsvp_base.specs.declared.session.Sender.{Sender}
 use Rattle.rsvp_base.specs.declared.session.Session.{Session}
 use Rattle.rsvp_base.specs.Members.{In}
 use Rattle.rsvp_base.specs.Orders.{Names}
-use Rattle.rsvp_base.specs.Sets.{Set}
-use Rattle.rsvp_base.specs.Table.{Table, get, has}
+use Rattle.rsvp_base.specs.Table.{get, has}
 use Rattle.rsvp_base.specs.TokenBucket.{IsSound, TokenBucket}
-use Rattle.rsvp_base.proofs.Members.{in_append, in_each}
-use Rattle.rsvp_base.proofs.Tables.{either}
 use Rattle.rsvp_messages.specs.declared.message.Message.{Message}
 use Rattle.rsvp_messages.specs.declared.message.Message.TheVariants as message
 use Rattle.rsvp_messages.specs.declared.message.PathMsg.{PathMsg}
@@ -23,57 +18,42 @@ use Rattle.rsvp_messages.specs.declared.message.ResvMsg.{ResvMsg}
 use Rattle.rsvp_messages.specs.declared.message.ResvTearMsg.{ResvTearMsg}
 use Rattle.rsvp_messages.specs.Units.{tear_style}
 use Rattle.style_rules.specs.PartLaws.{part_at_most_told}
-use Rattle.style_rules.specs.Toward.{or_else}
-use Rattle.laws_bounds.specs.FactLaws.{is_way}
-use Rattle.laws_bounds.specs.Frames.{on_advertised, on_senders}
 use Rattle.laws_bounds.specs.SendLaws.{IsConf, IsError, IsPath, IsPathTear, IsResv, IsResvTear}
-use Rattle.laws_bounds.proofs.Framing.{act_advertised, act_senders, act_wants}
+use Rattle.laws_bounds.proofs.Framing.{act_wants}
 use Rattle.laws_bounds.proofs.Lists.{none_in}
-use Rattle.laws_bounds.proofs.Offering.{offers_by_way}
 use Rattle.laws_bounds.proofs.Stepping.{send_told}
-use Rattle.laws_bounds.proofs.Tests.{not_new}
 use Rattle.laws_steps.specs.AcceptingLaws.{came_resv}
 use Rattle.laws_steps.specs.ReservationLaws.{TakesName}
-use Rattle.laws_steps.specs.SpeakingLaws.{IsOfOffer}
 use Rattle.router_rules.specs.Act.{act, act_spelt, is_mine}
 use Rattle.router_rules.specs.Asking.{stays}
 use Rattle.router_rules.specs.Calls.{call_refusal}
-use Rattle.router_rules.specs.Facts.{Facts, PathState, SenderKey, Want, WantKey, Wants, sender_keys}
-use Rattle.router_rules.specs.Inputs.{Call, Came, Change, ConfSend, ErrSend, Input, Local, Send, SendAs, Spelt, Wait}
+use Rattle.router_rules.specs.Facts.{Facts, SenderKey, Want, WantKey, Wants}
+use Rattle.router_rules.specs.Inputs.{Call, Came, Change, ConfSend, ErrSend, Input, Local, Send, SendAs, Spelt}
 use Rattle.router_rules.specs.NodeConfig.{NodeConfig, own}
-use Rattle.router_rules.specs.Offers.{Offer, offer_at, offers, own_offer, path_offer}
-use Rattle.router_rules.specs.Rule.{Outcome, settled}
-use Rattle.router_rules.specs.Sends.{confirmed, is_new_offer, path_send}
-use Rattle.router_rules.specs.Steps.{facts_then, node_step, sent_then}
+use Rattle.router_rules.specs.Rule.{settled}
+use Rattle.router_rules.specs.Sends.{confirmed}
+use Rattle.router_rules.specs.Steps.{sent_then}
 use Rattle.tree_model.specs.declared.hops.LinkHop.{LinkHop}
 use Rattle.tree_model.specs.Goals.{DemandsFit, addr_of}
-use Rattle.tree_model.specs.Networks.{Net, end_at, iface_of, node_of, node_of_end}
+use Rattle.tree_model.specs.Networks.{end_at, iface_of, node_of, node_of_end}
 use Rattle.tree_model.specs.Ranks.{longest, rank}
-use Rattle.tree_model.specs.Trees.{depth, hops_of, inward, outward}
+use Rattle.tree_model.specs.Trees.{hops_of, outward}
 use Rattle.tree_model.specs.Wants.{want}
-use Rattle.tree_model.proofs.Depths.{depth_and_rank_within_longest}
 use Rattle.tree_model.proofs.Ifaces.{interfaces_are_ends}
-use Rattle.tree_model.proofs.Links.{one_sending_end_on_a_link}
 use Rattle.tree_model.proofs.RankLaws.{rank_falls}
-use Rattle.tree_model.proofs.TreeLaws.{out_told}
 use Rattle.network_model.specs.Bounds.{AreBounds, AreHosts}
 use Rattle.network_model.specs.Events.{pass, passes}
 use Rattle.network_model.specs.Locals.{locals_of}
 use Rattle.network_model.specs.Sound.{ArePathsSound, AreResvsSound, IsSoundPart}
 use Rattle.network_model.specs.Steps.{At, Deliver, Step, outcome, sent, step, still}
-use Rattle.network_model.specs.Worlds.{Item, World, config_of}
+use Rattle.network_model.specs.Worlds.{Item, World}
 use Rattle.network_model.proofs.Changing.{what_is_sent_is_copied}
-use Rattle.network_model.proofs.Machines.{in_arrived, in_flight_after, in_rest}
+use Rattle.network_model.proofs.Machines.{in_arrived, in_flight_after}
 use Rattle.network_model.proofs.Quiet.{at_node_found}
-use Rattle.network_model.proofs.Stepping.{facts_after_made}
 use Rattle.laws_network.specs.Known.{IsSameNet}
 use Rattle.laws_network.proofs.Known.{of_some}
-use Rattle.laws_network.proofs.Sends.{goes_to_peers, sent_by_rule}
-use Rattle.laws_network.proofs.Speaking.{refreshes_are_marked, what_a_path_sent_says}
-use Rattle.laws_network.proofs.Standing.{own_end, way_out}
-use Rattle.settle_paths.specs.SoftPaths.{path_at}
+use Rattle.laws_network.proofs.Standing.{own_end}
 use Rattle.settle_paths.proofs.PreviousHops.{ends_there, same_by_addr}
-use Rattle.settle_paths.proofs.SoftPaths.{IsBrought, path_found, path_made, path_source}
 use Rattle.settle_resvs.specs.GoalByIface.{goal_at}
 use Rattle.settle_resvs.specs.Said.{HopKey, IsOver, hop_over, lane_of}
 use Rattle.settle_resvs.specs.Sessions.{SessionFits}
@@ -83,21 +63,20 @@ use Rattle.settle_resvs.proofs.TowardWants.{toward_is_at_most_the_want}
 use Rattle.settle_network.specs.Settled.{HasSettled}
 use Rattle.settle_passes.specs.Calls.{IsNew, after_send}
 use Rattle.settle_passes.specs.Passes.{HasNoPathTear, after_passes}
-use Rattle.settle_passes.proofs.Calls.{path_sent_by_call}
-use Rattle.settle_passes.proofs.Deliveries.{came_by_delivery, known_self, path_stays, same_next, tear_of_none}
+use Rattle.settle_passes.proofs.Deliveries.{came_by_delivery, known_self, same_next}
 use Rattle.settle_passes.proofs.Rising.{rise}
 use Rattle.settle_passes.proofs.Serving.{settled_is_reserved}
 use Rattle.settle_passes.proofs.SoundParts.{named_below}
 use Rattle.settle_passes.proofs.Spreading.{after_deliveries, run_then}
-use Rattle.settle_passes.proofs.Tearing.{IsFrom, drop_or, no_rest, tail_drop}
 use Rattle.settle_passes.proofs.Turns.{Turns, left, moment, place, sent_in_turn, torn_in_turn, ways_of}
+use Rattle.settle_passes.proofs.Called.{in_flight_then, path_sent_by_call, turns as called_turns, unless_same}
 use Rattle.settle_releases.specs.Releases.{HasNoMark}
-use Rattle.settle_releases.proofs.Releasing.{unless_same}
 use Rattle.settle_releases.proofs.Silence.{IsUnanswered, goes_back, resv_plain, resv_unanswered, tear_unanswered, unmarked_in_turn}
 use Rattle.settle_senders.specs.Following.{IsFollowing}
 use Rattle.settle_senders.proofs.Following.{following_next, taken, turns}
-use Rattle.settle_senders.proofs.Sending.{a_reserving_session_follows, following_then, in_flight_then, sound_on, turns as called_turns}
-use Rattle.settle_senders.proofs.Serving.{begins, deliveries_stay, paths_reach_receivers_that_wait, receivers_that_wait_are_served, twice}
+use Rattle.settle_senders.proofs.Sending.{a_reserving_session_follows, following_then, sound_on}
+use Rattle.settle_senders.proofs.Serving.{begins, paths_reach_receivers_that_wait, receivers_that_wait_are_served, twice}
+use Rattle.settle_senders.proofs.Further.{IsFromDepth, none_later}
 
 -- ---- a node that tells nobody of an error and confirms nothing
 record IsQuietTurn (p : NodeConfig) (c : ℕ) (input : Input) (f : Facts) : Type 0 where
@@ -138,24 +117,24 @@ unanswered_is_quiet : (p : NodeConfig) (c : ℕ) (input : Input) (f : Facts) →
 unanswered_is_quiet p c input f v = record { errors = v.errors; confs = v.confs; asked = v.asked; unmarked = v.unmarked }
 
 -- ---- a Path that comes
-module _ (p : NodeConfig) (c e : ℕ) (dst : Addr) (m : PathMsg) (f : Facts) (unmarked : (k : WantKey) (x : Want) → get f.wants k ≡ Some x → x.confirm ≡ false) where
+module _ (p : NodeConfig) (c e : ℕ) (dst : Addr) (m : PathMsg) (f : Facts) where
   abbrev tells : Input
   tells = Came e dst (Spelt (message.Path m))
 
-  no_errors : (b : Bool) → (act_spelt p c e (message.Path m) b f).errors ≡ []
+  pub no_errors : (b : Bool) → (act_spelt p c e (message.Path m) b f).errors ≡ []
   no_errors true = refl
   no_errors false = refl
 
-  no_confs : (b : Bool) → (act_spelt p c e (message.Path m) b f).confs ≡ []
+  pub no_confs : (b : Bool) → (act_spelt p c e (message.Path m) b f).confs ≡ []
   no_confs true = refl
   no_confs false = refl
 
-  not_asked : (b : Bool) → (act_spelt p c e (message.Path m) b f).asked ≡ None
+  pub not_asked : (b : Bool) → (act_spelt p c e (message.Path m) b f).asked ≡ None
   not_asked true = refl
   not_asked false = refl
 
-  path_quiet : IsQuietTurn p c tells f
-  path_quiet = record {
+  path_quiet : ((k : WantKey) (x : Want) → get f.wants k ≡ Some x → x.confirm ≡ false) → IsQuietTurn p c tells f
+  path_quiet unmarked = record {
     errors = no_errors (is_mine p e dst (message.Path m));
     confs = no_confs (is_mine p e dst (message.Path m));
     asked = not_asked (is_mine p e dst (message.Path m));
@@ -176,13 +155,6 @@ record IsTearOfSound (w : World) (y : Item) (m : ResvTearMsg) : Type 0 where
   part : Part
   sound : IsSoundPart key.style w key.session key.to (addr_of w.net key.from) key.unit part
   takes : TakesName m part
-
--- where a Path in flight came from: a node that is so many hops from the root at least
-abbrev pub IsPathFrom : Net → ℕ → Item → Type 0
-IsPathFrom net n y = (m : PathMsg) (x : Sender) (t : TokenBucket) → y.arrival ≡ Spelt (message.Path m) → m.sender ≡ Some (x, t) → IsFrom net (m.session, x) n y
-
-less_deep : (net : Net) (i j : ℕ) → i ≤ j → (y : Item) → IsPathFrom net j y → IsPathFrom net i y
-less_deep net i j le y from m x t spelt sender = let f = from m x t spelt sender in let deep = f.deep in record { end = f.end; leaves = f.leaves; to = f.to; deep = omega (arith, le, deep) }
 
 -- ---- a step by which a node follows its rule at most
 module _ (q : ℕ) (t : Step) (u : World) (bounds : AreBounds q u) (follows : (n : ℕ) (f : Facts) → slice_get u.nodes n ≡ Some f → (outcome q t u n f ≡ still f) ⊎ Turns q t u n f) where
@@ -220,100 +192,6 @@ module _ (q : ℕ) (t : Step) (u : World) (bounds : AreBounds q u) (follows : (n
           sound = x;
           takes = record { name = g.some.0; was = gone.named; goes = ap (λ (o : Option Names). stays o g.some.0) g.lists ∙ ap not g.some.1 };
         }
-
--- ---- a Path that is sent when one is delivered comes from a node that is one hop further from the root
-module _ (q : ℕ) (u : World) (bounds : AreBounds q u) (no_tear : HasNoPathTear u) (n : ℕ) (old : (y : Item) → slice_get u.flight 0 ≡ Some y → IsPathFrom u.net n y) where
-  deep_by_path : (r : ℕ) (k : SenderKey) (x : PathState) → IsBrought q u.net (Deliver 0) u r k x → suc n ≤ depth u.net k.0.group k.1.addr r
-  deep_by_path r k x new =
-      let key : ◌≡◌ {A = SenderKey} (new.path.session, k.1) k = (λ j. (new.session j, k.1)) in
-      let from = subst (λ (z : SenderKey). IsFrom u.net z n new.item) key (old new.item new.arrives new.path k.1 new.tspec new.spelt new.sender) in
-      let into : inward u.net (node_of u.net.ends new.item.end) k.0.group k.1.addr ≡ Some new.item.end =
-      subst (λ (z : ℕ). inward u.net z k.0.group k.1.addr ≡ Some new.item.end) (sym new.node) new.inward in
-      let hop = (one_sending_end_on_a_link u.net bounds.net).hop k.0.group k.1.addr from.end new.item.end from.leaves from.to into in
-      let along = (depth_and_rank_within_longest u.net bounds.net).along k.0.group k.1.addr hop.0 hop.1 in
-      let a1 = ap (λ (z : ℕ). depth u.net k.0.group k.1.addr (node_of u.net.ends z)) hop.2 in
-      let a2 = ap (λ (z : ℕ). depth u.net k.0.group k.1.addr (node_of u.net.ends z)) hop.3 in
-      let a3 = ap (λ (z : ℕ). depth u.net k.0.group k.1.addr z) new.node in
-      let deep = from.deep in
-      omega arith
-
-  -- so is a node at which the path of a sender changes
-  same_or_deep : (r : ℕ) (f : Facts) → slice_get u.nodes r ≡ Some f → (k : SenderKey) → (get (outcome q (Deliver 0) u r f).facts.paths k ≡ get f.paths k) ⊎ (suc n ≤ depth u.net k.0.group k.1.addr r)
-  same_or_deep r f at k = by (get (outcome q (Deliver 0) u r f).facts.paths k) (get f.paths k) refl refl
-    where
-      g : Facts
-      g = (outcome q (Deliver 0) u r f).facts
-
-      after : slice_get (step q (Deliver 0) u).nodes r ≡ Some g
-      after = facts_after_made q (Deliver 0) u r f at
-
-      by : (o p : Option PathState) → get g.paths k ≡ o → get f.paths k ≡ p → (get g.paths k ≡ get f.paths k) ⊎ (suc n ≤ depth u.net k.0.group k.1.addr r)
-      by None None e h = inl (e ∙ sym h)
-      by None (Some x) e h =
-          let s = path_stays q 0 u bounds r f k x (tear_of_none u no_tear k) at h in
-          let same : s.0 ≡ g = of_some s.0 g (sym s.1 ∙ after) in
-          let bad : None ≡ Some s.2 = sym e ∙ ap (λ (z : Facts). get z.paths k) (sym same) ∙ s.3 in
-          absurd (cc)
-      by (Some x) p e h =
-          ⊎_elim
-          (λ (was : path_at u r k ≡ Some x).
-          let z = path_found u r k x was in
-          let same : z.0 ≡ f = of_some z.0 f (sym z.1 ∙ at) in
-          inl (e ∙ sym z.2 ∙ ap (λ (d : Facts). get d.paths k) same))
-          (λ (new : IsBrought q u.net (Deliver 0) u r k x). inr (deep_by_path r k x new))
-          (path_source q (Deliver 0) u refl bounds r k x (path_made (step q (Deliver 0) u) r k x g after e))
-
-  pub path_sent_from : (y : Item) (b : Bool) → In (y, b) (sent q (Deliver 0) u) → IsPathFrom u.net (suc n) y
-  path_sent_from y b i m x t spelt sender =
-      let r = sent_by_rule q (Deliver 0) u y b (message.Path m) refl i spelt in
-      let p : NodeConfig = config_of q u.net u.trees r.node in
-      let c : ℕ = u.clock + 0 in
-      let s = node_step p p u.clock c r.by.input r.facts in
-      let within = bounds.facts r.node r.facts r.there in
-      let came = came_by_delivery q 0 u bounds r.node r.by.input r.by.came in
-      either r.send.refresh
-      (λ yes.
-      let w = refreshes_are_marked.waited s within r.send r.sent yes in
-      let bad : Wait w.0 w.1 ≡ Came (iface_of u.net.ends came.item.end) came.item.dst came.item.arrival = sym w.2 ∙ came.is in absurd (cc))
-      (λ no.
-      let w = what_a_path_sent_says.why s within r.send m r.sent r.says no in
-      let o : IsOfOffer p (facts_then p p c r.by.input r.facts) r.send m = what_a_path_sent_says.says s within r.send m r.sent r.says in
-      let said : message.Path m ≡ (path_send p false (w.0, w.1)).message = sym r.says ∙ ap (λ (z : Send). z.message) w.2 in
-      let session : m.session ≡ w.0.session = path_said m _ said (λ (z : PathMsg). z.session) in
-      let from_sender : m.sender ≡ Some (w.0.sender, w.1.tspec) = path_said m _ said (λ (z : PathMsg). z.sender) in
-      let name : x ≡ w.0.sender = ap (λ (z : Sender × TokenBucket). z.0) (of_some (x, t) (w.0.sender, w.1.tspec) (sym sender ∙ from_sender)) in
-      let e = way_out q u.net u.trees r.node bounds.net o.key.session o.key.iface o.key.sender o.there o.way in
-      let of_session : o.key.session ≡ m.session = sym (ap (λ (z : PathMsg). z.session) o.is) in
-      let of_sender : o.key.sender ≡ x = ap (λ (z : Sender × TokenBucket). z.0) (of_some (o.key.sender, o.offer.tspec) (x, t) (sym (ap (λ (z : PathMsg). z.sender) o.is) ∙ sender)) in
-      let key : ◌≡◌ {A = SenderKey} (o.key.session, o.key.sender) (m.session, x) = (λ j. (of_session j, of_sender j)) in
-      let deep : suc n ≤ depth u.net w.0.session.group w.0.sender.addr r.node = ⊎_elim
-      (λ (same : get (outcome q (Deliver 0) u r.node r.facts).facts.paths (w.0.session, w.0.sender) ≡ get r.facts.paths (w.0.session, w.0.sender)).
-      let now : Facts = facts_then p p c r.by.input r.facts in
-      let paths : get now.paths (w.0.session, w.0.sender) ≡ get r.facts.paths (w.0.session, w.0.sender) =
-      sym (ap (λ (z : Outcome). get z.facts.paths (w.0.session, w.0.sender)) r.by.is) ∙ same in
-      let calm : on_senders r.by.input ≡ false = ap on_senders came.is in
-      let quiet : on_advertised r.by.input ≡ false = ap on_advertised came.is in
-      let senders : get now.senders (w.0.session, w.0.sender) ≡ get r.facts.senders (w.0.session, w.0.sender) =
-      ap (λ (z : Table sender_keys TokenBucket). get z (w.0.session, w.0.sender)) (act_senders p c r.by.input r.facts calm) in
-      let told : has now.advertised (w.0.session, w.0.sender) ≡ has r.facts.advertised (w.0.session, w.0.sender) =
-      ap (λ (z : Set sender_keys). has z (w.0.session, w.0.sender)) (act_advertised p c r.by.input r.facts quiet) in
-      let offer_same : offer_at now w.0 ≡ offer_at r.facts w.0 = (λ j. or_else (option_map (own_offer (told j)) (senders j)) (option_map path_offer (paths j))) in
-      let old_offer : get (offers p r.facts) w.0 ≡ Some w.1 =
-      offers_by_way p r.facts w.0 ∙ ap (λ (z : Option Offer). cond (is_way p w.0) z None) (sym offer_same) ∙ sym (offers_by_way p now w.0) ∙ w.3 in
-      let bad : true ≡ false = sym w.4 ∙ ap (λ (z : Option Offer). is_new_offer p w.0.iface w.1 z) old_offer ∙ not_new p w.0.iface w.1 in
-      absurd (cc))
-      (λ (further : suc n ≤ depth u.net w.0.session.group w.0.sender.addr r.node). further)
-      (same_or_deep r.node r.facts r.there (w.0.session, w.0.sender)) in
-      record {
-        end = e.0;
-        leaves = subst (λ (z : ℕ). In e.0 (outward u.net z m.session.group x.addr)) (sym e.2) (subst (λ (z : SenderKey). In e.0 (outward u.net r.node z.0.group z.1.addr)) key e.3);
-        to = goes_to_peers u.net (end_at u.net.ends r.node r.send.iface) e.0 r.send.dst y.end (ap (end_at u.net.ends r.node) o.iface ∙ e.1) r.to;
-        deep = subst (λ (z : ℕ). suc n ≤ depth u.net m.session.group x.addr z) (sym e.2)
-            (subst (λ (z : Session × Sender). suc n ≤ depth u.net z.0.group z.1.addr r.node) (λ j. (sym session j, sym name j)) deep);
-      })
-    where
-      path_said : {B : Type 0} (a b : PathMsg) → message.Path a ≡ message.Path b → (g : PathMsg → B) → g a ≡ g b
-      path_said a b e g = let same : a ≡ b = cc in ap g same
 
 -- ---- worlds on the way
 record IsSilent (q : ℕ) (u : World) : Type 0 where
@@ -414,40 +292,8 @@ module _ (q : ℕ) where
       let v : World = after_deliveries q (length u.flight) u in
       subst (λ (w : World). IsSilent q w) (sym (run_then q (pass q u) (passes q n v) u)) (silent_passes n v (silent_deliveries (length u.flight) u r))
 
-  -- what was in flight when a pass began is not any more, and what is comes from one hop further
-  further : (j : ℕ) (o : World) (m : ℕ) (u : World) → IsSilent q u → u.net ≡ o.net → ((y : Item) → In y u.flight → IsPathFrom o.net j y)
-      → ((y : Item) → In y (drop m u.flight) → IsPathFrom o.net (suc j) y)
-      → (y : Item) → In y (after_deliveries q m u).flight → IsPathFrom o.net (suc j) y
-  further j o zero u r net all late y i = late y i
-  further j o (suc m) u r net all late y i =
-      let more : List Item = each (λ (x : Item × Bool). x.0) (sent q (Deliver 0) u) in
-      let one = (r.follows some_session).paths in
-      let new : (z : Item) → In z more → IsPathFrom o.net (suc j) z =
-      (λ z x.
-      let d = in_each (λ (w : Item × Bool). w.0) z (sent q (Deliver 0) u) x in
-      subst (λ (w : Net). IsPathFrom w (suc j) z) net
-      (path_sent_from q u one.bounds one.no_tear j (λ w e. subst (λ (v : Net). IsPathFrom v j w) (sym net) (all w (in_arrived (Deliver 0) u w e))) z d.0.1
-      (subst (λ (w : Item). In (w, d.0.1) (sent q (Deliver 0) u)) (sym d.2) d.1))) in
-      further j o m (step q (Deliver 0) u) (silent_next q u r) net
-      (λ z x. ⊎_elim (λ (old : In z (remove u.flight 0)). all z (in_rest (Deliver 0) u z refl old)) (λ (n : In z more). less_deep o.net j (suc j) (omega arith) z (new z n))
-      (in_append z (remove u.flight 0) more x))
-      (λ z x. ⊎_elim (λ (old : In z (drop m (remove u.flight 0))). late z (tail_drop z m u.flight old)) (λ (n : In z more). new z n) (drop_or z m (remove u.flight 0) more x)) y i
-
-  levels : (n j : ℕ) (u : World) → IsSilent q u → ((y : Item) → In y u.flight → IsPathFrom u.net j y) → (y : Item) → In y (after_passes q n u).flight → IsPathFrom u.net (j + n) y
-  levels zero j u r all y i = let sum : j ≡ j + zero = omega arith in subst (λ (z : ℕ). IsPathFrom u.net z y) sum (all y i)
-  levels (suc n) j u r all y i =
-      let m : ℕ = length u.flight in
-      let v : World = after_deliveries q m u in
-      let net : v.net ≡ u.net = deliveries_stay q m u in
-      let sum : suc j + n ≡ j + suc n = omega arith in
-      let up : (z : Item) → In z v.flight → IsPathFrom v.net (suc j) z =
-      (λ z x. subst (λ (w : Net). IsPathFrom w (suc j) z) (sym net) (further j u m u r refl all (λ a b. absurd (no_rest a u.flight b)) z x)) in
-      subst (λ (w : Net). IsPathFrom w (j + suc n) y) net
-      (subst (λ (z : ℕ). IsPathFrom v.net z y) sum
-      (levels n (suc j) v (silent_deliveries m u r) up y (subst (λ (w : World). In y w.flight) (run_then q (pass q u) (passes q n v) u) i)))
-
 -- ---- nothing is in flight in the end
-module _ (q : ℕ) (w : World) (r : IsSilent q w) (from : (y : Item) → In y w.flight → IsPathFrom w.net 0 y) where
+module _ (q : ℕ) (w : World) (r : IsSilent q w) (from : (y : Item) → In y w.flight → IsFromDepth w.net 0 y) where
   abbrev later : World
   later = after_passes q (2 * longest w.net) w
 
@@ -460,15 +306,8 @@ module _ (q : ℕ) (w : World) (r : IsSilent q w) (from : (y : Item) → In y w.
       by : (o : Option (Sender × TokenBucket)) → m.sender ≡ o → ⊥
       by None none = (silent.follows some_session).paths.sound.named y m i spelt none
       by (Some x) sender =
-          let f = levels q (2 * longest w.net) 0 w r from y i m x.0 x.1 spelt sender in
-          let valid = (r.follows some_session).paths.bounds.net in
-          let h = out_told w.net (node_of w.net.ends f.end) f.end m.session.group x.0.addr f.leaves in
-          let depths = depth_and_rank_within_longest w.net valid in
-          let along = depths.along m.session.group x.0.addr h.0 h.1 in
-          let every = depths.every m.session.group x.0.addr (node_of w.net.ends h.0.to) in
-          let node = ap (λ (z : ℕ). depth w.net m.session.group x.0.addr (node_of w.net.ends z)) h.2 in
-          let deep = f.deep in
-          omega arith
+          none_later q (IsSilent q) (λ u s. (s.follows some_session).paths.bounds) (λ u s. (s.follows some_session).paths.no_tear) (silent_next q) (2 * longest w.net) w r (omega arith)
+          from y m x.0 x.1 i spelt sender
 
   abbrev half : World
   half = after_passes q (longest w.net) w
@@ -520,7 +359,7 @@ module _ (q n : ℕ) (k : SenderKey) (t : TokenBucket) (w : World) (r : IsSilent
   follows_then c = following_then q n k t w (r.follows c).paths fit new hosts c (r.follows c) (fits c)
 
   abbrev turns_then : (m : ℕ) (f : Facts) → slice_get w.nodes m ≡ Some f → (outcome q (At n call) w m f ≡ still f) ⊎ Turns q (At n call) w m f
-  turns_then = called_turns q n k t w one.paths fit new hosts
+  turns_then = called_turns q n call w
 
   quiet_then : (m : ℕ) (f : Facts) → slice_get w.nodes m ≡ Some f → (h : Turns q (At n call) w m f) → IsQuietTurn (place q (At n call) w m) (moment q (At n call) w) h.input f
   quiet_then m f at h =
@@ -552,17 +391,17 @@ module _ (q n : ℕ) (k : SenderKey) (t : TokenBucket) (w : World) (r : IsSilent
         plain = λ y i.
             ⊎_elim (λ (old : In y w.flight). r.plain y old)
             (λ (now : (b : Bool) × In (y, b) (sent q (At n call) w)). plain_sent q (At n call) w one.paths.bounds turns_then then_one.paths.no_tear quiet_then y now.0 now.1 i)
-            (in_flight_then q n k t w one.paths fit new hosts y i);
+            (in_flight_then q n call w y i);
         tears = λ y m i spelt.
             ⊎_elim (λ (old : In y w.flight). tear_then y m (r.tears y m old spelt))
             (λ (now : (b : Bool) × In (y, b) (sent q (At n call) w)).
             tear_then y m (tear_of_sound q (At n call) w one.paths.bounds turns_then then_one.paths.bounds then_one.paths.sound one.paths.sound one.sound y now.0 m now.1 spelt))
-            (in_flight_then q n k t w one.paths fit new hosts y i);
+            (in_flight_then q n call w y i);
         unmarked = unmarked_in_turn q (At n call) w turns_then (λ m f at h. (quiet_then m f at h).unmarked) r.unmarked;
       }
 
   -- each Path in flight is sent by the call, where nothing was
-  paths_from : w.flight ≡ [] → (y : Item) → In y begun.flight → IsPathFrom begun.net 0 y
+  paths_from : w.flight ≡ [] → (y : Item) → In y begun.flight → IsFromDepth begun.net 0 y
   paths_from empty_flight y i m x flow spelt sender =
       ⊎_elim (λ (old : In y w.flight). absurd (subst (λ (z : List Item). In y z) empty_flight old))
       (λ (now : (b : Bool) × In (y, b) (sent q (At n call) w)).
@@ -574,7 +413,7 @@ module _ (q n : ℕ) (k : SenderKey) (t : TokenBucket) (w : World) (r : IsSilent
         to = p.to;
         deep = omega arith;
       })
-      (in_flight_then q n k t w one.paths fit new hosts y i)
+      (in_flight_then q n call w y i)
 
 pub a_sender_leaves_nothing_in_flight : (q n : ℕ) (k : SenderKey) (t : TokenBucket) (w : World) → AreBounds q w → AreHosts w → HasSettled q w → w.flight ≡ [] → HasNoMark w → IsSound t → IsNew w k
     → AreHosts (after_send q n k t w) → DemandsFit w.net (locals_of (after_send q n k t w)) → (after_passes q (2 * longest w.net) (after_send q n k t w)).flight ≡ []

@@ -37,7 +37,7 @@ use Rattle.network_model.specs.ThreeRouters.{first, group, s1, session, usual}
 use Rattle.network_model.specs.Bounds.{AreHosts}
 use Rattle.network_model.specs.Links.{is_group}
 use Rattle.network_model.specs.Locals.{IsLive, locals_of, senders_at, sessions_of}
-use Rattle.network_model.specs.Sound.{ArePathsComplete, AreResvsSound, IsExact}
+use Rattle.network_model.specs.Sound.{ArePathsComplete, ArePathsSound, AreResvsSound, IsExact}
 use Rattle.network_model.specs.Worlds.{Item}
 use Rattle.laws_network.specs.Example.{pair_net, quiet_world}
 use Rattle.laws_network.proofs.Known.{of_some}
@@ -45,7 +45,6 @@ use Rattle.settle_paths.specs.Sure.{forth}
 use Rattle.settle_resvs.specs.Sessions.{AreExactOf, IsFreeOfBlockadesOf}
 use Rattle.settle_resvs.proofs.GoalByIface.{each_fits}
 use Rattle.settle_resvs.proofs.UnderTheGoal.{want_needs}
-use Rattle.settle_passes.specs.Calls.{HasItsPaths}
 use Rattle.settle_passes.specs.Reserving.{AsksNoLess, HasReserved, IsReserving}
 use Rattle.settle_passes.proofs.AskedExample.{a_receiver_asks}
 use Rattle.settle_passes.proofs.Serving.{settled_again}
@@ -281,19 +280,21 @@ nobody_then (suc (suc n)) m k t e h = cc
 abbrev heard_path : PathState
 heard_path = record { iface = 0; hop = record { addr = s1; handle = 0 }; tspec = usual; police = true; adspec = None; dies = 157500 }
 
-not_forgotten : HasItsPaths 7500 let_go_world → ⊥
+not_forgotten : ArePathsSound let_go_world → ⊥
 not_forgotten h =
-    let l = (h.sound.facts 1 (unwrap_or (slice_get let_go_world.nodes 1) no_facts) (session, first) heard_path refl refl).sound.live in
+    let l = (h.facts 1 (unwrap_or (slice_get let_go_world.nodes 1) no_facts) (session, first) heard_path refl refl).sound.live in
     nobody_then l.node l.senders (session, first) usual l.at l.sends
 
 pub a_sender_ends : ASenderEnds
 a_sender_ends = record {
-  bounds = a_receiver_quits.begins.bounds;
-  locals = a_receiver_quits.begins.locals;
+  begins = a_receiver_quits.begins;
   settled = a_receiver_quits.settled;
   quiet = refl;
   sends = record { facts = unwrap_or (slice_get served_world.nodes 0) no_facts; there = refl; sends = refl };
-  not_yet = not_forgotten;
+  not_yet = λ h. not_forgotten h.sound;
+  not_settled = λ h. not_forgotten h.paths_sound;
+  unmarked = a_receiver_quits.unmarked;
+  flies = λ e. let bad : 1 ≡ 0 = ap (λ (z : List Item). length z) e in omega (arith, bad);
 }
 
 pub a_shared_flow_falls_later : ASharedFlowFallsLater

@@ -17,8 +17,9 @@ use Rattle.settle_adverts.specs.Demanded.{HasSettledAdverts}
 use Rattle.settle_adverts.specs.Worked.{advertised_world, one_hop}
 use Rattle.settle_passes.specs.Calls.{IsNew}
 use Rattle.settle_passes.specs.Worked.{heard_world}
-use Rattle.settle_senders.specs.Adverts.{AreAdvertising, HasItsAdverts, after_advert, keeps}
+use Rattle.settle_senders.specs.Adverts.{AreAdvertising, HasItsAdverts, after_advert, adverts}
 use Rattle.settle_senders.specs.Worked.{waiting_world}
+use Rattle.settle_senders.specs.Readings.{kept_at}
 
 -- ---- a pair of nodes, in which a host begins to send, and advertises: at once, or when its path is there
 abbrev pub told_world : World
@@ -53,8 +54,8 @@ two_hops = record one_hop { hops = 2 }
 
 pub record NoPassIsSparedAnAdvert : Type 0 where
   pub long : longest (line_net 10000) ≡ 2
-  pub too_soon : keeps (told_after 1) (session, first) 2 ≡ Some None
-  pub in_time : keeps (told_after 2) (session, first) 2 ≡ Some (Some two_hops)
+  pub too_soon : kept_at adverts (told_after 1) (session, first) 2 ≡ Some None
+  pub in_time : kept_at adverts (told_after 2) (session, first) 2 ≡ Some (Some two_hops)
 
 -- ---- a Path without an ADSPEC is in flight, of a sender that is advertised, when the host begins to send and advertises as another one
 abbrev pub stray_path : Arrival
@@ -67,5 +68,5 @@ behind_a_stray_path =
     ∷ AtNode 0 (AdvertAs session second) ∷ Pass 1 ∷ []))
 
 pub record AStrayPathIsTaken : Type 0 where
-  pub first_one : keeps behind_a_stray_path (session, first) 1 ≡ Some None
-  pub second_one : keeps behind_a_stray_path (session, second) 1 ≡ Some (Some one_hop)
+  pub first_one : kept_at adverts behind_a_stray_path (session, first) 1 ≡ Some None
+  pub second_one : kept_at adverts behind_a_stray_path (session, second) 1 ≡ Some (Some one_hop)

@@ -1,3 +1,4 @@
+pub mod Readings
 pub mod Adverts
 pub mod Flows
 pub mod AdvertsWorked

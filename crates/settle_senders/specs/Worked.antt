@@ -9,7 +9,7 @@ use Rattle.rsvp_base.specs.TokenBucket.{IsSound, TokenBucket}
 use Rattle.tree_model.specs.declared.hops.TreeHop.{TreeHop}
 use Rattle.tree_model.specs.Goals.{DemandsFit}
 use Rattle.tree_model.specs.Ranks.{longest}
-use Rattle.network_model.specs.Bounds.{AreBounds, AreHosts}
+use Rattle.network_model.specs.Bounds.{AreBounds, AreHosts, IsStart}
 use Rattle.network_model.specs.Events.{AtNode, DeliverAt, Event, Pass, Reports, Traces}
 use Rattle.network_model.specs.Locals.{locals_of}
 use Rattle.network_model.specs.Rows.{end_of, line, plan_of, sends, usual_entry, wants}
@@ -59,12 +59,15 @@ abbrev pub let_go_world : World
 let_go_world = after_drop 7500 0 (session, first) served_world
 
 pub record ASenderEnds : Type 0 where
-  pub bounds : AreBounds 7500 served_world
-  pub locals : AreHosts served_world
+  pub begins : IsStart 7500 served_world
   pub settled : HasSettled 7500 served_world
   pub quiet : served_world.flight ≡ []
   pub sends : SendsAt served_world 0 (session, first)
   pub not_yet : HasItsPaths 7500 let_go_world → ⊥
+  pub not_settled : HasSettled 7500 let_go_world → ⊥
+  -- and nobody waits to be confirmed
+  pub unmarked : HasNoMark served_world
+  pub flies : let_go_world.flight ≡ [] → ⊥
 
 -- ---- three nodes in a line, H = 2: none of the four passes can be spared
 pub record NoPassIsSpared : Type 0 where

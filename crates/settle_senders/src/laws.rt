@@ -4,6 +4,7 @@ ghost use Rattle.rsvp_base.specs.declared.session.Session.{Session};
 ghost use Rattle.rsvp_base.specs.Members.{In};
 ghost use Rattle.rsvp_base.specs.Sets.{with_key};
 ghost use Rattle.rsvp_base.specs.TokenBucket.{IsSound, TokenBucket};
+ghost use Rattle.calm_rounds.specs.Hold.{Visited};
 ghost use Rattle.laws_bounds.specs.Frames.{calls_on_senders};
 ghost use Rattle.router_rules.specs.Facts.{SenderKey};
 ghost use Rattle.router_rules.specs.Inputs.{Local};
@@ -13,9 +14,10 @@ ghost use Rattle.tree_model.specs.Goals.{DemandsFit};
 ghost use Rattle.tree_model.specs.Ranks.{longest};
 ghost use Rattle.tree_model.specs.Trees.{tree};
 ghost use Rattle.network_model.specs.Bounds.{AreBounds, AreHosts, IsStart};
+ghost use Rattle.network_model.specs.Events.{passes};
 ghost use Rattle.network_model.specs.Locals.{IsLive, locals_of};
 ghost use Rattle.network_model.specs.Sound.{HasNoFlowError, IsFreeOfBlockade, IsPathAt, TakesAll};
-ghost use Rattle.network_model.specs.Steps.{At, Step, is_quiet, step};
+ghost use Rattle.network_model.specs.Steps.{At, Step, is_quiet, machine, step};
 ghost use Rattle.network_model.specs.Worlds.{World};
 ghost use Rattle.settle_adverts.specs.Demanded.{HasSettledAdverts, advertised_senders};
 ghost use Rattle.settle_resvs.specs.Sessions.{SessionFits};
@@ -162,32 +164,36 @@ pub fn a_settled_network_serves_an_advertised_sender()
         × HasItsAdverts q (after_passes q (2 * longest w.net) (after_advert q n k (after_send q n k t w))) }
 {}
 
-/// When a host ends where receivers have what it sends, no node ever keeps more than was wanted before, however many passes later: from a
-/// settled network within bounds with hosts, in which nothing is in flight, each reservation is at most what was wanted over its hop, with
-/// the sender, and no end holds more than its demand was.
+/// When a host ends where receivers have what it sends, no node ever keeps more than was wanted before: from a settled network within bounds
+/// with hosts, in which nothing is in flight, each reservation is at most what was wanted over its hop, with the sender, and no end holds
+/// more than its demand was. So it is in each world on the way through however many passes, behind each delivery.
 pub fn a_sender_that_ends_asks_for_no_more()
     ensures { (q n i : ℕ) (d : SenderKey) (w : World) → AreBounds q w → AreHosts w → HasSettled q w → w.flight ≡ [] → SendsAt w n d
-        → AreNoMoreThanWanted w (after_passes q i (after_drop q n d w)) × EndsHoldNoMore w (after_passes q i (after_drop q n d w)) }
+        → Visited (machine q) (λ u. AreNoMoreThanWanted w u × EndsHoldNoMore w u) (passes q i (after_drop q n d w)) (after_drop q n d w) }
 {}
 
-/// From H passes after a host ends on, no reservation names a sender that ended: each name is that of a sender that sends. Paths are those of
-/// the others then, and no PathTear is in flight.
+/// From H passes on after a host ends, behind each delivery, each name that a reservation has is that of a sender that sends: with a wildcard
+/// filter its address, which another sender may share with the one that ended. Paths are those of the others then, and no PathTear is in
+/// flight.
 pub fn a_sender_that_ends_is_named_no_more()
     ensures { (q n i : ℕ) (d : SenderKey) (w : World) → AreBounds q w → AreHosts w → HasSettled q w → w.flight ≡ [] → SendsAt w n d
-        → HasItsPaths q (after_passes q (longest w.net + i) (after_drop q n d w)) × AreNamesLive (after_passes q (longest w.net + i) (after_drop q n d w)) }
+        → Visited (machine q) (λ u. HasItsPaths q u × AreNamesLive u) (passes q i (after_passes q (longest w.net) (after_drop q n d w)))
+        (after_passes q (longest w.net) (after_drop q n d w)) }
 {}
 
-/// From H + 1 passes after a host ends on, no Resv in flight names a sender that ended.
+/// From H + 1 passes on after a host ends, behind each delivery, each name of a Resv in flight is that of a sender that sends, in the same way.
 pub fn a_sender_that_ends_is_asked_for_no_more()
     ensures { (q n i : ℕ) (d : SenderKey) (w : World) → AreBounds q w → AreHosts w → HasSettled q w → w.flight ≡ [] → SendsAt w n d
-        → AreAsksOfLive (after_passes q (longest w.net + suc i) (after_drop q n d w)) }
+        → Visited (machine q) AreAsksOfLive (passes q i (after_passes q (longest w.net + 1) (after_drop q n d w))) (after_passes q (longest w.net + 1) (after_drop q n d w)) }
 {}
 
-/// From H + 1 passes after a host ends on, nothing is refused, where the demands fitted before: each Resv that arrives is taken whole, whatever
-/// the network does by itself. Before that a router may answer with an error for the sender that ended, where a Resv overtakes the PathTear.
+/// And nothing is refused then, where the demands fitted before: from H + 1 passes on, behind each delivery, the Resv that arrives next is
+/// taken whole, whichever of those in flight it is. Before that a router may answer with an error for the sender that ended, where a Resv
+/// overtakes the PathTear.
 pub fn what_is_asked_for_then_is_taken()
-    ensures { (q n i : ℕ) (d : SenderKey) (w : World) → IsStart q w → HasSettled q w → w.flight ≡ [] → SendsAt w n d → (t : Step) → is_quiet t ≡ true
-        → TakesAll q t (after_passes q (longest w.net + suc i) (after_drop q n d w)) }
+    ensures { (q n i : ℕ) (d : SenderKey) (w : World) → IsStart q w → HasSettled q w → w.flight ≡ [] → SendsAt w n d
+        → Visited (machine q) (λ u. (t : Step) → is_quiet t ≡ true → TakesAll q t u) (passes q i (after_passes q (longest w.net + 1) (after_drop q n d w)))
+        (after_passes q (longest w.net + 1) (after_drop q n d w)) }
 {}
 
 /// In a network that has its paths, each with the flow that its sender sends, and in which no Path is in flight, over each hop of a sender's tree
@@ -238,8 +244,8 @@ pub fn other_flows_are_kept()
 {}
 
 /// And what is reserved is what it was: where the network had settled and nothing was in flight, it has settled again H passes after the host says
-/// another flow, and nothing is in flight. So each book is its demand, which depends on who sends and what is wanted, and on no flow that is sent;
-/// the demands need not fit.
+/// another flow, and nothing is in flight. So each book is its demand, which depends on who sends and what is wanted, and on no flow that is sent.
+/// That the demands fit is not asked for: each end has room for its demand, since that is its book.
 pub fn a_new_flow_leaves_reservations()
     ensures { (q n : ℕ) (k : SenderKey) (t : TokenBucket) (w : World) → AreBounds q w → AreHosts w → HasSettled q w → w.flight ≡ [] → IsSound t → SendsAt w n k
         → HasSettled q (after_passes q (longest w.net) (after_send q n k t w)) × ((after_passes q (longest w.net) (after_send q n k t w)).flight ≡ []) }
@@ -251,32 +257,35 @@ pub fn a_new_flow_leaves_adverts()
         → HasItsAdverts q (after_passes q (longest w.net) (after_send q n k t w)) }
 {}
 
-/// While a sender that ended is forgotten, nothing is refused for want of room, where the demands fitted before: after each pass no node has a
-/// blockade, and no ResvErr in flight sets one. So what is refused meanwhile is refused for the sender alone.
+/// While a sender that ended is forgotten, nothing is refused for want of room, where the demands fitted before: behind each delivery no node has
+/// a blockade, and no ResvErr in flight sets one.
 pub fn a_sender_that_ends_sets_no_blockade()
     ensures { (q n i : ℕ) (d : SenderKey) (w : World) → IsStart q w → HasSettled q w → w.flight ≡ [] → SendsAt w n d
-        → SetNoBlockade (after_passes q i (after_drop q n d w)) × IsFreeOfBlockade (after_passes q i (after_drop q n d w)) }
+        → Visited (machine q) (λ u. SetNoBlockade u × IsFreeOfBlockade u) (passes q i (after_drop q n d w)) (after_drop q n d w) }
 {}
 
-/// From 2 H + 1 passes after a host ends on, no ResvErr with a flow is in flight, where the demands fitted before: what was refused for the
+/// From 2 H + 1 passes on, behind each delivery, no ResvErr with a flow is in flight, where the demands fitted before: what was refused for the
 /// sender has been told to all whom it reaches. An error goes on over one hop a pass, and none is made from H + 1 passes on.
 pub fn a_sender_that_ends_leaves_no_error()
     ensures { (q n i : ℕ) (d : SenderKey) (w : World) → IsStart q w → HasSettled q w → w.flight ≡ [] → SendsAt w n d
-        → HasNoFlowError (after_passes q (2 * longest w.net + suc i) (after_drop q n d w)) }
+        → Visited (machine q) HasNoFlowError (passes q i (after_passes q (2 * longest w.net + 1) (after_drop q n d w)))
+        (after_passes q (2 * longest w.net + 1) (after_drop q n d w)) }
 {}
 
-/// And from the first pass on each Resv that arrives is taken for those that send, whatever the network does by itself: the reservation of each
-/// unit that lists such a name has it afterwards, and the flow that was asked for. So what may be left out is the sender that ended.
+/// And each Resv that arrives is taken for those that send: when the host ends, and behind each delivery from then on, whichever Resv of those in
+/// flight arrives next, the reservation of each unit of it that lists such a name has it afterwards, and the flow that was asked for. So what
+/// may be left out is the sender that ended.
 pub fn what_is_asked_for_others_is_taken()
-    ensures { (q n i : ℕ) (d : SenderKey) (w : World) → IsStart q w → HasSettled q w → w.flight ≡ [] → SendsAt w n d → (t : Step) → is_quiet t ≡ true
-        → TakesForLive q t (after_passes q i (after_drop q n d w)) }
+    ensures { (q n i : ℕ) (d : SenderKey) (w : World) → IsStart q w → HasSettled q w → w.flight ≡ [] → SendsAt w n d
+        → Visited (machine q) (λ u. (t : Step) → is_quiet t ≡ true → TakesForLive q t u) (passes q i (after_drop q n d w)) (after_drop q n d w) }
 {}
 
-/// And from H + 1 passes after a host ends on, each node has asked for what goes from it: over each hop it stands behind it, and nothing on its
+/// And from H + 1 passes on, behind each delivery, each node has asked for what goes from it: over each hop it stands behind it, and nothing on its
 /// way there asks for anything else; or it is asked for on its way, and nothing that was sent later asks for anything else.
 pub fn what_goes_then_is_asked_for()
     ensures { (q n i : ℕ) (s : Session) (d : SenderKey) (w : World) → IsStart q w → HasSettled q w → w.flight ≡ [] → SendsAt w n d
-        → AreAskedFor q s (after_passes q (longest w.net + suc i) (after_drop q n d w)) }
+        → Visited (machine q) (λ u. AreAskedFor q s u) (passes q i (after_passes q (longest w.net + 1) (after_drop q n d w)))
+        (after_passes q (longest w.net + 1) (after_drop q n d w)) }
 {}
 
 /// So from a settled network within bounds with hosts, in which nothing is in flight and whose demands fit, the network has settled again 2 H + 1
@@ -284,4 +293,11 @@ pub fn what_goes_then_is_asked_for()
 pub fn a_settled_network_lets_a_sender_go()
     ensures { (q n i : ℕ) (d : SenderKey) (w : World) → IsStart q w → HasSettled q w → w.flight ≡ [] → SendsAt w n d
         → HasSettled q (after_passes q (2 * longest w.net + suc i) (after_drop q n d w)) }
+{}
+
+/// And nothing is in flight then, where no want had a mark in the settled network: where nobody waited for a confirmation to be asked for. So
+/// nothing comes to a node any more until a refresh is due or somebody calls.
+pub fn a_sender_that_ends_leaves_nothing_in_flight()
+    ensures { (q n i : ℕ) (d : SenderKey) (w : World) → IsStart q w → HasSettled q w → w.flight ≡ [] → HasNoMark w → SendsAt w n d
+        → (after_passes q (2 * longest w.net + suc i) (after_drop q n d w)).flight ≡ [] }
 {}

@@ -65,8 +65,8 @@ pub fn a_stray_path_is_taken()
     ensures { AStrayPathIsTaken }
 {}
 
-/// In a pair of nodes whose receiver is served, the host ends: that meets the premises of the laws on a sender that ends, and what they promise
-/// does not hold yet when it does.
+/// In a pair of nodes whose receiver is served, the host ends: that meets the premises of the laws on a sender that ends; and when it does, paths
+/// are not those of the others yet, the network has not settled, and something is in flight.
 pub fn a_sender_ends()
     ensures { ASenderEnds }
 {}
@@ -77,14 +77,15 @@ pub fn a_shared_flow_falls_later()
     ensures { ASharedFlowFallsLater }
 {}
 
-/// Nor could they promise of two senders that end at once that 2 H passes later no ResvErr is in flight: where H is 1, a receiver that asks for
-/// each by name asks once more for the second one when it hears that the first has ended, and the answer is on its way after two passes.
+/// Of two senders that end at once they say nothing: where H is 1, a ResvErr is in flight 2 H passes later, since a receiver that asks for each
+/// by name asks once more for the second one when it hears that the first has ended. A pass later none is.
 pub fn two_senders_end()
     ensures { TwoSendersEnd }
 {}
 
 /// In a pair of nodes whose path is there, the host says another flow: that meets the premises of the laws on flows, and what they promise does
-/// not hold yet when it does. The path keeps the flow of before then, and the new one a pass later.
+/// not hold yet when it does. The path keeps the flow of before then, and the new one a pass later. And where the host sends as another sender
+/// besides, whose path is there too, that one keeps the flow that it kept.
 pub fn a_host_says_another_flow()
     ensures { AHostSaysAnotherFlow }
 {}

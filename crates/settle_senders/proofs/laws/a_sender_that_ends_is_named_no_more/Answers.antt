@@ -1,5 +1,5 @@
-use Rattle.settle_senders.proofs.Ending.{a_settled_network_names_live_senders}
+use Rattle.settle_senders.proofs.Visiting.{a_sender_that_ends_is_named_no_more}
 use Rattle.settle_senders.proofs.laws.a_sender_that_ends_is_named_no_more.Goals as goal
 
 pub returns : goal.returns
-returns c q n i d w bounds locals settled quiet sends = a_settled_network_names_live_senders q n i d w bounds locals settled quiet sends
+returns c q n i d w bounds locals settled quiet sends = a_sender_that_ends_is_named_no_more q n d w bounds locals settled quiet sends i

@@ -1,4 +1,4 @@
-use Rattle.settle_senders.proofs.Parting.{a_sender_that_ends_sets_no_blockade}
+use Rattle.settle_senders.proofs.Visiting.{a_sender_that_ends_sets_no_blockade}
 use Rattle.settle_senders.proofs.laws.a_sender_that_ends_sets_no_blockade.Goals as goal
 
 pub returns : goal.returns

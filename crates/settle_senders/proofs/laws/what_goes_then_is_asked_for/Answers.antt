@@ -1,4 +1,4 @@
-use Rattle.settle_senders.proofs.Letting.{what_goes_then_is_asked_for}
+use Rattle.settle_senders.proofs.Visiting.{what_goes_then_is_asked_for}
 use Rattle.settle_senders.proofs.laws.what_goes_then_is_asked_for.Goals as goal
 
 pub returns : goal.returns

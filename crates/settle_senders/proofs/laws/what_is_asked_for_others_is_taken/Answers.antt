@@ -1,5 +1,5 @@
-use Rattle.settle_senders.proofs.Parting.{what_is_asked_for_others_is_taken}
+use Rattle.settle_senders.proofs.Visiting.{what_is_asked_for_others_is_taken}
 use Rattle.settle_senders.proofs.laws.what_is_asked_for_others_is_taken.Goals as goal
 
 pub returns : goal.returns
-returns c q n i d w begins settled quiet sends t quiet_one = what_is_asked_for_others_is_taken q n d w begins settled quiet sends i t quiet_one
+returns c q n i d w begins settled quiet sends = what_is_asked_for_others_is_taken q n d w begins settled quiet sends i

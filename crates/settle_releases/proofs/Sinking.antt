@@ -1,22 +1,9 @@
--- Once no name of the sender that ended is left, reservations fall to what is wanted, one hop a pass, as those that recede do in
--- `settle_releases`.
+-- Reservations sink to what is wanted, pass by pass, where what is kept is within what was wanted before and each node has asked for what goes from it:
+-- nothing is on its way any more over hops from which no chain is longer than the passes.
 use Rattle.std.proofs.Common.{◌≡◌, ℕ, zero, suc, ◌+◌, ◌<◌, ◌≤◌, List, [], ◌∷◌, length, Bool, Some, inl, ⊎_elim, arith, sym, refl, ap, subst, ◌∙◌, drop, None, true, Option, ◌⊎◌}
-use Rattle.settle_releases.proofs.Falling.{IsStillOver}
-use Rattle.settle_passes.proofs.Turns.{Turns, none_sent}
-use Rattle.settle_senders.specs.Ending.{AreNamesLive, IsNameOfLive}
-use Rattle.settle_releases.proofs.Accepting.{AreResvsWithin, some_unit}
-use Rattle.settle_resvs.specs.Sessions.{HasNoBlockade, AreExactOf, IsFreeOfBlockadesOf}
-use Rattle.settle_passes.specs.Reserving.{AreAskedFor, AllAsk, AreExactUpTo, HasReserved, IsAskedLast, IsKeptOver}
-use Rattle.settle_passes.specs.Calls.{HasItsPaths}
-use Rattle.laws_network.proofs.Standing.{same_end}
-use Rattle.settle_paths.proofs.PreviousHops.{ends_there, same_by_addr}
-use Rattle.laws_bounds.proofs.Lists.{one_name}
-use Rattle.rsvp_base.specs.declared.session.Sender.{Sender}
-use Rattle.tree_model.specs.Wants.{Locals, names, want}
-use Rattle.network_model.specs.Steps.{Deliver, outcome, sent, step, still}
-use Rattle.router_rules.specs.Facts.{Facts, ResvState, resvs_of}
 use Rattle.std.specs.Prelude.{slice_get, map as each, not}
 use Rattle.std.specs.List.{remove}
+use Rattle.rsvp_base.specs.declared.session.Sender.{Sender}
 use Rattle.rsvp_base.specs.declared.part.Part.{Part}
 use Rattle.rsvp_base.specs.declared.session.Session.{Session}
 use Rattle.rsvp_base.specs.declared.style.StyleKind.{StyleKind}
@@ -26,7 +13,13 @@ use Rattle.rsvp_base.specs.Table.{get, has}
 use Rattle.rsvp_base.proofs.Members.{in_append, in_each}
 use Rattle.rsvp_messages.specs.Units.{ask_style}
 use Rattle.style_rules.specs.Merge.{PartTable}
+use Rattle.style_rules.specs.CutLaws.{name_some}
+use Rattle.style_rules.specs.PartLaws.{part_at_most_itself, part_at_most_tested, part_at_most_told}
+use Rattle.style_rules.specs.Lines.{LineKey}
+use Rattle.router_rules.specs.Facts.{Facts, ResvState, resvs_of}
 use Rattle.router_rules.specs.Requests.{toward}
+use Rattle.router_rules.specs.Known.{Lane}
+use Rattle.tree_model.specs.Wants.{Locals, names, want}
 use Rattle.tree_model.specs.declared.hops.LinkHop.{LinkHop}
 use Rattle.tree_model.specs.Goals.{addr_of}
 use Rattle.tree_model.specs.Networks.{Net, iface_of, node_of, end_at}
@@ -34,47 +27,58 @@ use Rattle.tree_model.specs.Ranks.{longest, rank}
 use Rattle.tree_model.specs.Trees.{hops_of}
 use Rattle.tree_model.proofs.Ifaces.{interfaces_are_ends}
 use Rattle.tree_model.proofs.RankLaws.{rank_falls, rank_some, rank_falls_at}
+use Rattle.tree_model.proofs.WantLaws.{want_names}
+use Rattle.tree_model.proofs.Following.{follower_of_group}
+use Rattle.network_model.specs.Steps.{Deliver, outcome, sent, step, still}
 use Rattle.network_model.specs.Bounds.{IsProperArrival}
 use Rattle.network_model.specs.Events.{pass, passes}
 use Rattle.network_model.specs.Locals.{locals_of}
 use Rattle.network_model.specs.Worlds.{Item, World, config_of}
 use Rattle.network_model.proofs.Machines.{in_flight_after, in_rest}
 use Rattle.network_model.proofs.Stepping.{facts_after_made}
+use Rattle.network_model.specs.Sound.{IsExact, IsSoundResv}
 use Rattle.laws_network.specs.Known.{IsSameNet}
 use Rattle.laws_network.proofs.Known.{node_there, of_some}
+use Rattle.settle_paths.proofs.PreviousHops.{ends_there}
+use Rattle.settle_paths.specs.PreviousHops.{IsPrevious}
+use Rattle.settle_resvs.specs.Sessions.{HasNoBlockade, AreExactOf, IsFreeOfBlockadesOf}
 use Rattle.settle_resvs.specs.Said.{HopKey, hop_over, lane_of, resv_key}
 use Rattle.settle_resvs.specs.SoftResvs.{line_key_of}
 use Rattle.settle_resvs.proofs.SoftResvs.{resv_found}
+use Rattle.settle_resvs.proofs.TowardIsTheWant.{toward_is_the_want}
+use Rattle.settle_passes.proofs.Turns.{Turns, none_sent}
+use Rattle.settle_passes.specs.Reserving.{AreAskedFor, AllAsk, AreExactUpTo, HasReserved, IsAskedLast, IsKeptOver, IsLetter}
+use Rattle.settle_passes.specs.Calls.{HasItsPaths}
 use Rattle.settle_passes.specs.Passes.{after_passes}
 use Rattle.settle_passes.proofs.Deliveries.{known_self, same_next}
 use Rattle.settle_passes.proofs.Fitting.{as_before}
 use Rattle.settle_passes.proofs.Spreading.{after_deliveries, run_then}
 use Rattle.settle_passes.proofs.Tearing.{drop_or, no_rest, tail_drop}
 use Rattle.settle_passes.proofs.Reserving.{some_asks}
-use Rattle.settle_resvs.proofs.TowardIsTheWant.{toward_is_the_want}
-use Rattle.settle_paths.specs.PreviousHops.{IsPrevious}
-use Rattle.router_rules.specs.Known.{Lane}
-use Rattle.style_rules.specs.CutLaws.{name_some}
-use Rattle.style_rules.specs.PartLaws.{part_at_most_itself, part_at_most_tested, part_at_most_told}
-use Rattle.tree_model.proofs.WantLaws.{want_names}
-use Rattle.network_model.specs.Sound.{IsExact, IsSoundResv}
-use Rattle.style_rules.specs.Lines.{LineKey}
-use Rattle.tree_model.proofs.Following.{follower_of_group}
+use Rattle.settle_releases.proofs.Accepting.{AreResvsWithin, some_unit}
 
--- ---- a network in which what is kept is within what was wanted before, and names those alone that send, and each node has asked for what goes
-pub record IsSinking (q : ℕ) (s : Session) (w u : World) : Type 0 where
+-- no letter over a hop from which no chain is longer
+abbrev pub IsStillOver : Session → Net → ℕ → Item → Type 0
+IsStillOver s net j y =
+    (k : HopKey) (v : Part) → k.session ≡ s → In (hop_over k) (hops_of net.hops k.session.group) → rank net k.session.group (hop_over k) ≤ j → IsLetter net k v y → ⊥
+
+-- ---- a network in which what is kept is within what was wanted before, each node has asked for what goes from it, and what is left over is asked for
+-- no more: its names are those that the hop has now, and where nothing is wanted any more a letter is on its way
+pub record IsSinking (q : ℕ) (s : Session) (before : List Facts) (u : World) : Type 0 where
   pub paths : HasItsPaths q u
-  pub within : AreResvsWithin w.nodes u
+  pub within : AreResvsWithin before u
   pub free : IsFreeOfBlockadesOf s u
   pub asked : AreAskedFor q s u
   pub turns : (n : ℕ) (f : Facts) → slice_get u.nodes n ≡ Some f → (outcome q (Deliver 0) u n f ≡ still f) ⊎ Turns q (Deliver 0) u n f
-  pub names_live : AreNamesLive u
-  pub names_over : (st : StyleKind) (c : Session) (h : LinkHop) (x : Sender) → has (names st u.net (locals_of (as_before w.nodes u)) c (h ∷ [])) x ≡ true → IsNameOfLive u c st x
-      → has (names st u.net (locals_of u) c (h ∷ [])) x ≡ true
-  pub wanted_still : (st : StyleKind) (h : LinkHop) (un : UnitOf) (p : Part) (x : Sender) → get (want st u.net (locals_of (as_before w.nodes u)) s h) un ≡ Some p → has p.senders x ≡ true
-      → IsNameOfLive u s st x → (z : Part) × (get (want st u.net (locals_of u) s h) un ≡ Some z)
+  pub named : (st : StyleKind) (n : ℕ) (f : Facts) (k : LineKey) (r : ResvState) (h : LinkHop) (x : Sender) → slice_get u.nodes n ≡ Some f → get (resvs_of st f) k ≡ Some r
+      → has r.part.senders x ≡ true → has (names st u.net (locals_of (as_before before u)) k.0 (h ∷ [])) x ≡ true → has (names st u.net (locals_of u) k.0 (h ∷ [])) x ≡ true
+  pub left_over : (st : StyleKind) (h : LinkHop) (un : UnitOf) (f g : Facts) (r : ResvState) → In h (hops_of u.net.hops s.group) → slice_get u.nodes (node_of u.net.ends h.from) ≡ Some f
+      → get (resvs_of st f) (s, ((iface_of u.net.ends h.from, addr_of u.net h.to), un)) ≡ Some r → slice_get u.nodes (node_of u.net.ends h.to) ≡ Some g
+      → get (toward (config_of q u.net u.trees (node_of u.net.ends h.to)) g (lane_of u.net (record { session = s; style = st; unit = un; from = h.to; to = h.from }))) un ≡ None
+      → get (want st u.net (locals_of u) s h) un ≡ None
+      → (y : Item) × In y u.flight × (v : Part) × IsLetter u.net (record { session = s; style = st; unit = un; from = h.to; to = h.from }) v y
 
-module _ (q : ℕ) (s : Session) (w : World) (P : World → Type 0) (sinks : (u : World) → P u → IsSinking q s w u) (go : (u : World) → P u → P (step q (Deliver 0) u)) where
+module _ (q : ℕ) (s : Session) (before : List Facts) (P : World → Type 0) (sinks : (u : World) → P u → IsSinking q s before u) (go : (u : World) → P u → P (step q (Deliver 0) u)) where
   abbrev Still : ℕ → World → Item → Type 0
   Still j u y = IsStillOver s u.net j y
 
@@ -127,8 +131,8 @@ module _ (q : ℕ) (s : Session) (w : World) (P : World → Type 0) (sinks : (u 
               iface = ap (iface_of u.net.ends) y.sound.from ∙ at_end.2;
               to = y.sound.to;
               names = λ z i.
-                  (sinks u r).names_over l.style k.0 y.sound.hop z (want_names l.style u.net (locals_of (as_before w.nodes u)) k.0 y.sound.hop k.1.1 y.sound.wanted y.sound.is z (up.names z i))
-                  ((sinks u r).names_live l.style n f k x z at e i);
+                  (sinks u r).named l.style n f k x y.sound.hop z at e i
+                  (want_names l.style u.net (locals_of (as_before before u)) k.0 y.sound.hop k.1.1 y.sound.wanted y.sound.is z (up.names z i));
             };
         sound = λ k x named e same low.
             let mine : k.0 ≡ s = same ∙ of in
@@ -188,25 +192,15 @@ module _ (q : ℕ) (s : Session) (w : World) (P : World → Type 0) (sinks : (u 
               let one : x ≡ y.0 = of_some x y.0 (sym e ∙ y.1) in
               wanted ∙ ap Some (sym (ap (λ (z : ResvState). z.part) one ∙ y.2))
           by None wanted =
-              let y = (sinks u r).within.facts st (node_of u.net.ends h.from) f (s, ((iface_of u.net.ends h.from, addr_of u.net h.to), un)) x at e in
+              let k : HopKey = record { session = s; style = st; unit = un; from = h.to; to = h.from } in
               let inside = ends_there u.net (sinks u r).paths.bounds.net s.group h there in
-              let theirs = ends_there u.net (sinks u r).paths.bounds.net s.group y.sound.hop y.sound.there in
-              let of = (interfaces_are_ends u.net).iface_of_end (node_of u.net.ends h.from) (iface_of u.net.ends h.from) y.end y.at in
-              let from : y.sound.hop.from ≡ h.from = y.sound.from ∙ same_end u.net y.end h.from of.0 inside.0 of.1 of.2 in
-              let to : y.sound.hop.to ≡ h.to = same_by_addr u.net (sinks u r).paths.bounds.net y.sound.hop.to h.to theirs.1 inside.1 y.sound.to in
-              let same : y.sound.hop ≡ h = (λ j. record { from = from j; to = to j }) in
-              let up = part_at_most_told x.part y.sound.wanted y.sound.below in
-              let first = one_name x.part.senders (name_some x.part.senders y.sound.some) in
-              let k = (sinks u r).wanted_still st h un y.sound.wanted first.0
-              (ap (λ (z : LinkHop). get (want st u.net (locals_of (as_before w.nodes u)) s z) un) (sym same) ∙ y.sound.is) (up.names first.0 first.1)
-              ((sinks u r).names_live st (node_of u.net.ends h.from) f (s, ((iface_of u.net.ends h.from, addr_of u.net h.to), un)) x first.0 at e first.1) in
-              let bad : None ≡ Some k.0 = sym wanted ∙ k.1 in
-              absurd (cc)
+              let g = node_there q u (sinks u r).paths.bounds.net u h.to (known_self q u (sinks u r).paths.bounds) inside.1 in
+              let goes : toward (config_of q u.net u.trees (node_of u.net.ends h.to)) g.0 (lane_of u.net k) ≡ want st u.net (locals_of u) s h =
+              toward_at j u r low (node_of u.net.ends h.to) g.0 g.1 (lane_of u.net k) refl h (record { there = there; node = refl; iface = refl; addr = refl }) near in
+              let l = (sinks u r).left_over st h un f g.0 x there at e g.1 (ap (λ (z : PartTable). get z un) goes ∙ wanted) wanted in
+              absurd (still l.0 l.1 k l.2 refl there near l.3)
 
   -- ---- one delivery
-  go_on : (u : World) → P u → P (step q (Deliver 0) u)
-  go_on u r = go u r
-
   same_on : (o u : World) → P u → IsSameNet o u → IsSameNet o (step q (Deliver 0) u)
   same_on o u r same = same_next q 0 u (sinks u r).paths.bounds o same
 
@@ -216,7 +210,7 @@ module _ (q : ℕ) (s : Session) (w : World) (P : World → Type 0) (sinks : (u 
   new_still u r j still zero le y b new k v of there near l = let some = rank_some u.net (sinks u r).paths.bounds.net.loop_free k.session.group (hop_over k) there in absurd (omega (arith, some, near))
   new_still u r j still (suc i) le y b new k v of there near l =
       let next : World = step q (Deliver 0) u in
-      let r' = go_on u r in
+      let r' = go u r in
       let locals : locals_of next ≡ locals_of u = (same_on u u r (known_self q u (sinks u r).paths.bounds).same).locals in
       let low = exact_where_still u r i (λ z m. less_still i j (omega (arith, le)) u z (still z m)) in
       let low' : AreExactUpTo s i next =
@@ -241,13 +235,13 @@ module _ (q : ℕ) (s : Session) (w : World) (P : World → Type 0) (sinks : (u 
   abbrev After : ℕ → World → World
   After m u = after_deliveries q m u
 
-  receding_on : (m : ℕ) (u : World) → P u → P (After m u)
-  receding_on zero u r = r
-  receding_on (suc m) u r = receding_on m (step q (Deliver 0) u) (go_on u r)
+  sinking_on : (m : ℕ) (u : World) → P u → P (After m u)
+  sinking_on zero u r = r
+  sinking_on (suc m) u r = sinking_on m (step q (Deliver 0) u) (go u r)
 
   same_after : (m : ℕ) (o u : World) → P u → IsSameNet o u → IsSameNet o (After m u)
   same_after zero o u r same = same
-  same_after (suc m) o u r same = same_after m o (step q (Deliver 0) u) (go_on u r) (same_on o u r same)
+  same_after (suc m) o u r same = same_after m o (step q (Deliver 0) u) (go u r) (same_on o u r same)
 
   still_on : (j : ℕ) (o : World) (m : ℕ) (u : World) → P u → IsSameNet o u → ((y : Item) → In y u.flight → Still j o y) → ((y : Item) → In y (drop m u.flight) → Still (suc j) o y)
       → (y : Item) → In y (After m u).flight → Still (suc j) o y
@@ -260,7 +254,7 @@ module _ (q : ℕ) (s : Session) (w : World) (P : World → Type 0) (sinks : (u 
       let d = in_each (λ (w : Item × Bool). w.0) z (sent q (Deliver 0) u) x in
       subst (λ (w : Net). IsStillOver s w (suc j) z) same.net
       (new_still u r j here (suc j) (omega arith) z d.0.1 (subst (λ (w : Item). In (w, d.0.1) (sent q (Deliver 0) u)) (sym d.2) d.1))) in
-      still_on j o m (step q (Deliver 0) u) (go_on u r) (same_on o u r same)
+      still_on j o m (step q (Deliver 0) u) (go u r) (same_on o u r same)
       (λ z x. ⊎_elim (λ (old : In z (remove u.flight 0)). all z (in_rest (Deliver 0) u z refl old)) (λ (n : In z more). less_still j (suc j) (omega arith) o z (new z n))
       (in_append z (remove u.flight 0) more x))
       (λ z x. ⊎_elim (λ (old : In z (drop m (remove u.flight 0))). late z (tail_drop z m u.flight old)) (λ (n : In z more). new z n) (drop_or z m (remove u.flight 0) more x)) y i
@@ -272,7 +266,7 @@ module _ (q : ℕ) (s : Session) (w : World) (P : World → Type 0) (sinks : (u 
   passes_on (suc n) j u r still =
       let m : ℕ = length u.flight in
       let v : World = After m u in
-      let r' = receding_on m u r in
+      let r' = sinking_on m u r in
       let same = same_after m u u r (known_self q u (sinks u r).paths.bounds).same in
       let up : (y : Item) → In y v.flight → Still (suc j) v y =
       (λ y i. subst (λ (w : Net). IsStillOver s w (suc j) y) (sym same.net)
@@ -295,19 +289,19 @@ module _ (q : ℕ) (s : Session) (w : World) (P : World → Type 0) (sinks : (u 
   nothing_low : (u : World) → P u → (y : Item) → In y u.flight → Still 0 u y
   nothing_low u r y i k v of there near l = let some = rank_some u.net (sinks u r).paths.bounds.net.loop_free k.session.group (hop_over k) there in absurd (omega (arith, some, near))
 
-  pub fall : (n : ℕ) (w : World) → P w
+  pub sink : (n : ℕ) (w : World) → P w
       → P (after_passes q n w) × ((y : Item) → In y (after_passes q n w).flight → Still n (after_passes q n w) y) × IsSameNet w (after_passes q n w)
-  fall n w r =
+  sink n w r =
       let d = passes_on n 0 w r (nothing_low w r) in
       let sum : 0 + n ≡ n = omega arith in
       (d.0, λ y i. subst (λ (z : ℕ). Still z (after_passes q n w) y) sum (d.1 y i), d.2)
 
   -- ---- so H passes on they are exactly what is wanted, and no Resv of the session is in flight
-  pub reservations_recede : (w : World) → P w
+  pub reservations_sink : (w : World) → P w
       → P (after_passes q (longest w.net) w) × HasReserved s (after_passes q (longest w.net) w) × IsSameNet w (after_passes q (longest w.net) w)
-  reservations_recede w r =
+  reservations_sink w r =
       let u : World = after_passes q (longest w.net) w in
-      let d = fall (longest w.net) w r in
+      let d = sink (longest w.net) w r in
       let long : longest u.net ≡ longest w.net = ap longest d.2.net in
       let ranks = rank_falls u.net (sinks u d.0).paths.bounds.net.loop_free in (
         d.0,
@@ -324,9 +318,9 @@ module _ (q : ℕ) (s : Session) (w : World) (P : World → Type 0) (sinks : (u 
       )
 
   -- ---- and sound
-  pub sound_where_reserved : (u : World) → P u → AreExactOf s u → (st : StyleKind) (n : ℕ) (f : Facts) (k : LineKey) (r : ResvState) → slice_get u.nodes n ≡ Some f
+  pub sound_when_sunk : (u : World) → P u → AreExactOf s u → (st : StyleKind) (n : ℕ) (f : Facts) (k : LineKey) (r : ResvState) → slice_get u.nodes n ≡ Some f
       → get (resvs_of st f) k ≡ Some r → k.0 ≡ s → IsSoundResv st u n k r
-  sound_where_reserved u r exact st n f k x at e of =
+  sound_when_sunk u r exact st n f k x at e of =
       let y = (sinks u r).within.facts st n f k x at e in
       let at_end = (interfaces_are_ends u.net).iface_of_end n k.1.0.0 y.end y.at in
       sound_where_exact u r st n f k x at e of y.sound.hop y.sound.there (ap (node_of u.net.ends) y.sound.from ∙ at_end.1) (ap (iface_of u.net.ends) y.sound.from ∙ at_end.2) y.sound.to

@@ -1,6 +1,6 @@
--- One delivery, of what has been in flight longest: the flow that is said over each hop stands behind it in the end still, and paths are those of
--- live senders still, by the hops of their trees.
-use Rattle.std.proofs.Common.{◌≡◌, ℕ, suc, ◌+◌, List, [], ◌∷◌, Bool, true, Option, Some, None, ◌⊎◌, inl, inr, ⊎_elim, sym, refl, ap, subst, ◌∙◌}
+-- One delivery, of what has been in flight longest: what is offered over each hop is kept behind it in the end still, paths are those of live senders
+-- still, by the hops of their trees.
+use Rattle.std.proofs.Common.{◌≡◌, ℕ, ◌+◌, List, [], ◌∷◌, Bool, true, Option, Some, None, ◌⊎◌, inl, ⊎_elim, sym, refl, ap, subst, ◌∙◌, arith}
 use Rattle.std.specs.Prelude.{slice_get}
 use Rattle.std.specs.List.{remove}
 use Rattle.std.specs.Option.{option_map}
@@ -17,25 +17,25 @@ use Rattle.rsvp_messages.specs.declared.message.Message.TheVariants as message
 use Rattle.rsvp_messages.specs.declared.message.PathMsg.{PathMsg}
 use Rattle.style_rules.specs.Toward.{or_else}
 use Rattle.router_rules.specs.Facts.{Facts, PathState, SenderKey, sender_keys}
-use Rattle.router_rules.specs.Inputs.{Came, Input, Spelt, Wait}
+use Rattle.router_rules.specs.Inputs.{Came, Input, Spelt}
 use Rattle.router_rules.specs.NodeConfig.{NodeConfig, comes_in}
-use Rattle.router_rules.specs.Rule.{Outcome, is_silent}
+use Rattle.router_rules.specs.Rule.{Outcome}
 use Rattle.router_rules.specs.Steps.{node_step}
 use Rattle.tree_model.specs.declared.hops.LinkHop.{LinkHop}
 use Rattle.tree_model.specs.Goals.{addr_of}
-use Rattle.tree_model.specs.Networks.{end_at, iface_of, node_of}
+use Rattle.tree_model.specs.Networks.{end_at, iface_of, node_of, Net}
 use Rattle.tree_model.specs.Trees.{inward, outward, tree}
 use Rattle.tree_model.specs.Valid.{IsValid}
 use Rattle.tree_model.proofs.Ifaces.{interfaces_are_ends}
 use Rattle.tree_model.proofs.Links.{one_sending_end_on_a_link}
 use Rattle.tree_model.proofs.TreeLaws.{one, way_in_tested}
+use Rattle.network_model.specs.Sound.{ArePathsSound, IsPathAt}
 use Rattle.network_model.specs.Bounds.{AreBounds}
 use Rattle.network_model.specs.Locals.{IsLive}
-use Rattle.network_model.specs.Sound.{IsPathAt}
 use Rattle.network_model.specs.Steps.{Deliver, ms_of, outcome, sent, step, still}
 use Rattle.network_model.specs.Worlds.{Item, World, config_of}
 use Rattle.network_model.proofs.Machines.{in_flight_after}
-use Rattle.network_model.proofs.Quiet.{FollowsRule, outcome_by, outcome_quiet}
+use Rattle.network_model.proofs.Quiet.{outcome_by}
 use Rattle.network_model.proofs.Stepping.{facts_after_made}
 use Rattle.laws_network.specs.Sources.{CameOnTree, said_by}
 use Rattle.laws_network.proofs.Known.{came_there, node_there, of_some}
@@ -46,13 +46,14 @@ use Rattle.settle_paths.proofs.PathSends.{IsPathSent, path_sent}
 use Rattle.settle_paths.proofs.SaidPaths.{routed}
 use Rattle.settle_paths.specs.SoftPaths.{path_at}
 use Rattle.settle_paths.proofs.SoftPaths.{IsBrought, path_found, path_made, path_source}
-use Rattle.settle_passes.proofs.Deliveries.{bounds_next, came_by_delivery, hosts_next, known_self, live_back, live_next, no_tear_next, path_stays, tear_of_none}
+use Rattle.settle_passes.specs.Passes.{AreSpreading}
+use Rattle.settle_passes.proofs.Deliveries.{bounds_next, hosts_next, known_self, live_next, no_tear_next, path_stays, tear_of_none, live_back}
 use Rattle.settle_passes.proofs.Turns.{Turns}
-use Rattle.settle_senders.specs.Flows.{AreFlowsSaid, ArePathsOnTheTree, IsOnTheTree, IsPathOnTheTree, IsTelling, brings_flow, flow_in_the_end, keeps_flow}
-use Rattle.settle_senders.proofs.FlowItems.{IsBringing, brings_made, brings_told}
-use Rattle.settle_senders.proofs.FlowSaying.{said_on}
-use Rattle.settle_senders.proofs.AdvertDeliveries.{IsFromDepth, from_anywhere}
-use Rattle.settle_senders.proofs.Silence.{IsPathFrom as IsSentFrom, path_sent_from}
+use Rattle.settle_passes.proofs.Arriving.{turns as turns_of}
+use Rattle.settle_senders.specs.Readings.{AreOffersKept, ArePathsOnTheTree, ArePathsThere, AreRooted, IsFromATree, IsOnTheTree, IsPathOnTheTree, Reading, carried_to, kept_after, kept_at}
+use Rattle.settle_senders.proofs.OfferItems.{IsCarrying, carried_made, carried_told}
+use Rattle.settle_senders.proofs.Offering.{IsFaithful, kept_on}
+use Rattle.settle_senders.proofs.Further.{IsFromDepth, path_sent_from}
 
 pub at_first : {A : Type 0} (x : A) (xs : List A) → slice_get xs 0 ≡ Some x → In x xs
 at_first x [] e = absurd (cc)
@@ -63,7 +64,7 @@ on_next : (q j : ℕ) (u : World) → AreBounds q u → (k : SenderKey) (e : ℕ
 on_next q j u bounds k e a s = (s.0, record { hop = s.1.hop; there = s.1.there; to = s.1.to; from = s.1.from; live = live_next q j u bounds k s.0 s.1.live })
 
 -- a path of a live sender's tree is the one at the hop
-pub path_right : (q : ℕ) (w : World) → AreBounds q w → (k : SenderKey) (h : LinkHop) → In h (tree w.net.hops k.0.group k.1.addr) → (f : Facts)
+path_right : (q : ℕ) (w : World) → AreBounds q w → (k : SenderKey) (h : LinkHop) → In h (tree w.net.hops k.0.group k.1.addr) → (f : Facts)
     → slice_get w.nodes (node_of w.net.ends h.to) ≡ Some f → (x : PathState) → get f.paths k ≡ Some x → IsPathOnTheTree w (node_of w.net.ends h.to) k x → IsPathAt w k x.tspec h
 path_right q w bounds k h there f a x e s =
     let of = (interfaces_are_ends w.net).iface_of_end (node_of w.net.ends h.to) x.iface s.end s.at in
@@ -106,7 +107,22 @@ sent_on_tree q v valid y m x t facts p sender way =
     (s.sound.0, s.sound.1.live)) p.source in
     (live.0, record { hop = h.0; there = h.1; to = h.3; from = p.hop ∙ ap (addr_of v.net) (sym h.2); live = live.1 })
 
-module _ (q : ℕ) (u : World) (start : IsTelling q u) where
+-- ---- where paths spread they are on the trees
+pub sound_on_tree : (w : World) → ArePathsSound w → ArePathsOnTheTree w
+sound_on_tree w sound = record {
+  facts = λ n f k x at e. let p = sound.facts n f k x at e in record { end = p.end; at = p.at; sound = (x.tspec, p.sound) };
+  items = λ y m x t i spelt sender way. (t, sound.items y m x t i spelt sender way);
+  named = sound.named;
+}
+
+pub spreading_rooted : (q : ℕ) (w : World) → AreSpreading q w → ((y : Item) → In y w.flight → IsFromATree w.net y) → AreRooted q w
+spreading_rooted q w s from = record { bounds = s.bounds; hosts = s.hosts; paths = sound_on_tree w s.sound; no_tear = s.no_tear; from = from }
+
+-- ---- where a Path in flight came from, whatever node
+pub from_anywhere : (net : Net) (y : Item) → IsFromATree net y → IsFromDepth net 0 y
+from_anywhere net y from m x t spelt sender = let f = from m x t spelt sender in record { end = f.end; leaves = f.leaves; to = f.to; deep = omega arith }
+
+module _ (q : ℕ) (u : World) (start : AreRooted q u) where
   abbrev bounds : AreBounds q u
   bounds = start.bounds
 
@@ -114,21 +130,10 @@ module _ (q : ℕ) (u : World) (start : IsTelling q u) where
   next = step q (Deliver 0) u
 
   pub turns : (n : ℕ) (f : Facts) → slice_get u.nodes n ≡ Some f → (outcome q (Deliver 0) u n f ≡ still f) ⊎ Turns q (Deliver 0) u n f
-  turns n f at =
-      ⊎_elim (λ (z : _ × (outcome q (Deliver 0) u n f ≡ still f)). inl z.1)
-      (λ (r : FollowsRule q (Deliver 0) u n f (outcome q (Deliver 0) u n f)).
-      let c = came_by_delivery q 0 u bounds n r.input r.came in
-      inr (record {
-        input = r.input;
-        came = r.came;
-        loud = ap is_silent c.is;
-        timeless = λ ms word e. let bad : Wait ms word ≡ Came (iface_of u.net.ends c.item.end) c.item.dst c.item.arrival = sym e ∙ c.is in cc;
-        is = r.is;
-      }))
-      (outcome_quiet q (Deliver 0) u n f refl)
+  turns = turns_of q u bounds
 
   -- ---- what is kept behind a hop
-  module _ (k : SenderKey) (h : LinkHop) (there : In h (tree u.net.hops k.0.group k.1.addr)) where
+  module _ {A : Type 0} (read : Reading A) (faithful : IsFaithful read) (k : SenderKey) (h : LinkHop) (there : In h (tree u.net.hops k.0.group k.1.addr)) where
     abbrev into : ℕ
     into = node_of u.net.ends h.to
 
@@ -136,14 +141,15 @@ module _ (q : ℕ) (u : World) (start : IsTelling q u) where
     way_in = way_in_tested u.net bounds.net into h.to k.0.group k.1.addr (h, there, refl, refl)
 
     -- where no Path of the sender arrives, the same
-    kept_still : ((y : Item) (a : TokenBucket) → slice_get u.flight 0 ≡ Some y → brings_flow k h.to y ≡ Some a → ⊥) → keeps_flow next k into ≡ keeps_flow u k into
-    kept_still none = ap (option_map (λ (x : PathState). x.tspec)) (by (path_at u into k) (path_at next into k) refl refl)
+    kept_still : ((y : Item) (a : A) → slice_get u.flight 0 ≡ Some y → carried_to read k h.to y ≡ Some a → ⊥) → kept_at read next k into ≡ kept_at read u k into
+    kept_still none = ap (option_map read.kept) (by (path_at u into k) (path_at next into k) refl refl)
       where
         not_brought : (x : PathState) → IsBrought q u.net (Deliver 0) u into k x → ⊥
         not_brought x b =
             let end : b.item.end ≡ h.to = of_some b.item.end h.to (sym b.inward ∙ way_in) in
-            none b.item b.tspec b.arrives
-            (brings_made k h.to b.item b.tspec (record { end = end; path = b.path; spelt = b.spelt; session = b.session; sender = b.sender }))
+            none b.item (read.carried b.path b.tspec) b.arrives
+            (carried_made read k h.to b.item (read.carried b.path b.tspec)
+            (record { end = end; path = b.path; spelt = b.spelt; session = b.session; tspec = b.tspec; sender = b.sender; carried = refl }))
 
         by : (o o' : Option PathState) → path_at u into k ≡ o → path_at next into k ≡ o' → path_at next into k ≡ path_at u into k
         by o (Some x) was is =
@@ -157,7 +163,7 @@ module _ (q : ℕ) (u : World) (start : IsTelling q u) where
         by None None was is = is ∙ sym was
 
     -- a Path of the sender is taken
-    kept_then : (y : Item) (a : TokenBucket) → slice_get u.flight 0 ≡ Some y → y.dst ≡ k.0.group → IsBringing k h.to y a → keeps_flow next k into ≡ Some a
+    kept_then : (y : Item) (a : A) → slice_get u.flight 0 ≡ Some y → y.dst ≡ k.0.group → IsCarrying read k h.to y a → kept_at read next k into ≡ Some a
     kept_then y a arr dst b =
         let lt = to_there u.net bounds.net k.0.group k.1.addr h there in
         let f = node_there q u bounds.net u h.to (known_self q u bounds) lt in
@@ -167,7 +173,7 @@ module _ (q : ℕ) (u : World) (start : IsTelling q u) where
         let came = came_there q u u (known_self q u bounds) h.to lt (Deliver 0) y arr b.end ∙ (λ i. Some (Came (iface_of u.net.ends h.to) (dst i) (b.spelt i))) in
         let tree_in : comes_in p k.0 (iface_of u.net.ends h.to) k.1 ≡ true =
         comes_in_made q u.net u.trees into k.0 h.to k.1 (routed q u u k.0.group k.1.addr h (known_self q u bounds) there) way_in in
-        let by : CameOnTree p input k = record { at = iface_of u.net.ends h.to; path = b.path; tspec = a; came = refl; session = b.session; sender = b.sender; tree = tree_in } in
+        let by : CameOnTree p input k = record { at = iface_of u.net.ends h.to; path = b.path; tspec = b.tspec; came = refl; session = b.session; sender = b.sender; tree = tree_in } in
         let x : PathState = said_by p c input k by in
         let live : (t : TokenBucket) × IsLive u k t = alive y a arr b in
         let fits : IsWithinSessionLimits by_sender (put_in f.0.paths k x) =
@@ -180,34 +186,35 @@ module _ (q : ℕ) (u : World) (start : IsTelling q u) where
         let put = (a_path_on_the_tree_is_learnt.learnt (node_step p p u.clock c input f.0) (bounds.facts into f.0 f.1) k by fits).0 in
         let has_it : get (outcome q (Deliver 0) u into f.0).facts.paths k ≡ Some x =
         ap (λ (z : Outcome). get z.facts.paths k) (outcome_by q (Deliver 0) u into f.0 input refl came) ∙ ap (λ (z : _). get z k) put ∙ get-put_in_same sender_keys f.0.paths k x in
-        ap (option_map (λ (z : PathState). z.tspec)) (path_made next into k x (outcome q (Deliver 0) u into f.0).facts (facts_after_made q (Deliver 0) u into f.0 f.1) has_it)
+        ap (option_map read.kept) (path_made next into k x (outcome q (Deliver 0) u into f.0).facts (facts_after_made q (Deliver 0) u into f.0 f.1) has_it)
+        ∙ ap Some (faithful.learnt p c (iface_of u.net.ends h.to) b.path b.tspec ∙ b.carried)
       where
-        alive : (y : Item) (a : TokenBucket) → slice_get u.flight 0 ≡ Some y → (b : IsBringing k h.to y a) → (t : TokenBucket) × IsLive u k t
+        alive : (y : Item) (a : A) → slice_get u.flight 0 ≡ Some y → (b : IsCarrying read k h.to y a) → (t : TokenBucket) × IsLive u k t
         alive y a arr b =
             let way : inward u.net (node_of u.net.ends y.end) b.path.session.group k.1.addr ≡ Some y.end =
             (λ j. inward u.net (node_of u.net.ends (b.end j)) (b.session j).group k.1.addr) ∙ way_in ∙ ap Some (sym b.end) in
-            let s = start.paths.items y b.path k.1 a (at_first y u.flight arr) b.spelt b.sender way in
+            let s = start.paths.items y b.path k.1 b.tspec (at_first y u.flight arr) b.spelt b.sender way in
             (s.0, subst (λ (z : Session). IsLive u (z, k.1) s.0) b.session s.1.live)
 
     -- so what stands in the end of what was in flight stands then of what is left of it
-    left_same : flow_in_the_end k h.to (keeps_flow next k into) (remove u.flight 0) ≡ flow_in_the_end k h.to (keeps_flow u k into) u.flight
+    left_same : kept_after read k h.to (kept_at read next k into) (remove u.flight 0) ≡ kept_after read k h.to (kept_at read u k into) u.flight
     left_same = by u.flight refl
       where
-        by : (ys : List Item) → u.flight ≡ ys → flow_in_the_end k h.to (keeps_flow next k into) (remove ys 0) ≡ flow_in_the_end k h.to (keeps_flow u k into) ys
+        by : (ys : List Item) → u.flight ≡ ys → kept_after read k h.to (kept_at read next k into) (remove ys 0) ≡ kept_after read k h.to (kept_at read u k into) ys
         by [] is = kept_still (λ y a arr. let bad : None ≡ Some y = sym (ap (λ (z : List Item). slice_get z 0) is) ∙ arr in absurd (cc))
-        by (y ∷ ys) is = ap (λ (z : Option TokenBucket). flow_in_the_end k h.to z ys) (now (brings_flow k h.to y) refl)
+        by (y ∷ ys) is = ap (λ (z : Option A). kept_after read k h.to z ys) (now (carried_to read k h.to y) refl)
           where
             first : slice_get u.flight 0 ≡ Some y
             first = ap (λ (z : List Item). slice_get z 0) is
 
-            now : (o : Option TokenBucket) → brings_flow k h.to y ≡ o → keeps_flow next k into ≡ or_else (brings_flow k h.to y) (keeps_flow u k into)
+            now : (o : Option A) → carried_to read k h.to y ≡ o → kept_at read next k into ≡ or_else (carried_to read k h.to y) (kept_at read u k into)
             now None none =
-                kept_still (λ z a arr br. let same : z ≡ y = of_some z y (sym arr ∙ first) in let bad : None ≡ Some a = sym none ∙ ap (brings_flow k h.to) (sym same) ∙ br in absurd (cc))
-                ∙ sym (ap (λ (z : Option TokenBucket). or_else z (keeps_flow u k into)) none)
+                kept_still (λ z a arr br. let same : z ≡ y = of_some z y (sym arr ∙ first) in let bad : None ≡ Some a = sym none ∙ ap (carried_to read k h.to) (sym same) ∙ br in absurd (cc))
+                ∙ sym (ap (λ (z : Option A). or_else z (kept_at read u k into)) none)
             now (Some a) some =
-                let b = brings_told k h.to y a some in
-                let from = start.from y (at_first y u.flight first) b.path k.1 a b.spelt b.sender in
-                kept_then y a first (from.dst ∙ ap (λ (z : Session). z.group) b.session) b ∙ sym (ap (λ (z : Option TokenBucket). or_else z (keeps_flow u k into)) some)
+                let b = carried_told read k h.to y a some in
+                let from = start.from y (at_first y u.flight first) b.path k.1 b.tspec b.spelt b.sender in
+                kept_then y a first (from.dst ∙ ap (λ (z : Session). z.group) b.session) b ∙ sym (ap (λ (z : Option A). or_else z (kept_at read u k into)) some)
 
   -- ---- paths are on the trees still
   on_facts : (k : SenderKey) (n : ℕ) (g : Facts) (x : PathState) → slice_get next.nodes n ≡ Some g → get g.paths k ≡ Some x → IsPathOnTheTree next n k x
@@ -244,36 +251,29 @@ module _ (q : ℕ) (u : World) (start : IsTelling q u) where
         let no : Some (p.sender, p.tspec) ≡ None = sym p.of ∙ none in absurd (cc)) (in_flight_after q (Deliver 0) u y refl i);
   }
 
-  there_next : (k : SenderKey) (t : TokenBucket) (h : LinkHop) → IsLive next k t → In h (tree next.net.hops k.0.group k.1.addr) → (kept : TokenBucket) × IsPathAt next k kept h
-  there_next k t h live there =
-      let p = start.there k t h (live_back q 0 u bounds k t live) there in
+  pub there_next : ArePathsThere u → ArePathsThere next
+  there_next paths_there k t h live there =
+      let p = paths_there k t h (live_back q 0 u bounds k t live) there in
       let s = path_stays q 0 u bounds (node_of u.net.ends h.to) p.1.facts k p.1.path (tear_of_none u start.no_tear k) p.1.node p.1.there in
       (s.2.tspec, path_right q next (bounds_next q 0 u bounds) k h there s.0 s.1 s.2 s.3 (on_facts k (node_of u.net.ends h.to) s.0 s.2 s.1 s.3))
 
-  said_next : AreFlowsSaid next
-  said_next k h a there e =
-      said_on q (Deliver 0) u bounds turns k h there (remove u.flight 0) refl (left_same k h there) (λ b is. start.said k h b there is) (hosts_next q 0 u bounds start.hosts) paths_next a e
-
-  -- ---- a Path that is sent goes by an end one hop further from the root than the one that was delivered, and to its group
-  pub sent_deeper : (n : ℕ) → ((y : Item) → slice_get u.flight 0 ≡ Some y → IsFromDepth u.net n y) → (y : Item) (b : Bool) → In (y, b) (sent q (Deliver 0) u) → IsFromDepth u.net (suc n) y
-  sent_deeper n old y b i m x t spelt sender =
-      let before : (z : Item) → slice_get u.flight 0 ≡ Some z → IsSentFrom u.net n z =
-      (λ z e m' x' t' spelt' sender'. let d = old z e m' x' t' spelt' sender' in record { end = d.from.end; leaves = d.from.leaves; to = d.from.to; deep = d.deep }) in
-      let f = path_sent_from q u bounds start.no_tear n before y b i m x t spelt sender in
-      record { from = record { dst = (path_sent q (Deliver 0) u refl bounds y b m i spelt).dst; end = f.end; leaves = f.leaves; to = f.to }; deep = f.deep }
+  pub offers_next : {A : Type 0} (read : Reading A) → IsFaithful read → AreOffersKept read u → AreOffersKept read next
+  offers_next read faithful offers k h a there e =
+      kept_on q (Deliver 0) u bounds turns read faithful k h there (remove u.flight 0) refl (left_same read faithful k h there) (λ b is. offers k h b there is) (hosts_next q 0 u bounds start.hosts)
+      paths_next a e
 
   -- ---- all together
-  pub telling_next : IsTelling q next
-  telling_next = record {
+  pub rooted_next : AreRooted q next
+  rooted_next = record {
     bounds = bounds_next q 0 u bounds;
     hosts = hosts_next q 0 u bounds start.hosts;
     paths = paths_next;
-    there = there_next;
     no_tear = no_tear_next q 0 u bounds start.no_tear;
     from = λ y i.
         ⊎_elim (λ (old : In y u.flight). start.from y old)
         (λ (new : (b : Bool) × In (y, b) (sent q (Deliver 0) u)).
-        λ m x t spelt sender. (sent_deeper 0 (λ z e. from_anywhere u.net z (start.from z (at_first z u.flight e))) y new.0 new.1 m x t spelt sender).from)
+        λ m x t spelt sender.
+        let f = path_sent_from q u bounds start.no_tear 0 (λ z e. from_anywhere u.net z (start.from z (at_first z u.flight e))) y new.0 new.1 m x t spelt sender in
+        record { dst = (path_sent q (Deliver 0) u refl bounds y new.0 m new.1 spelt).dst; end = f.end; leaves = f.leaves; to = f.to })
         (in_flight_after q (Deliver 0) u y refl i);
-    said = said_next;
   }
