@@ -38,7 +38,7 @@ use Rattle.laws_network.proofs.Hosts.{each_world_of_a_run_keeps_the_locals}
 use Rattle.laws_network.proofs.Runs.{each_world_of_a_run_is_within_bounds, no_time, passes_calm, pieces_calm, place_calm, rounds_calm}
 use Rattle.settle_network.proofs.RunsSettle.{joined, visited_at}
 use Rattle.settle_network.proofs.Settled.{run_all, run_then}
-use Rattle.settle_refreshes.specs.Plain.{IsNotInjected, IsPlain, IsPlainEvent, IsPlainStale, IsPlainWorld, NoErrorIsForAll, StaysPlain, to_plain_refreshes}
+use Rattle.settle_refreshes.specs.Plain.{InjectsNothing, IsPlain, IsPlainEvent, IsPlainStale, IsPlainWorld, NoErrorIsForAll, StaysPlain, to_plain_refreshes}
 use Rattle.settle_refreshes.specs.Refreshes.{HasNoErrorForAll, HasNothingElse, HasOnlyRefreshes, IsConfirmation, IsErrorForAll, IsRefresh, MayGoRound, NobodyWaits}
 use Rattle.settle_refreshes.proofs.Confirming.{style_at}
 use Rattle.settle_refreshes.proofs.Loud.{IsNoInjection, IsPlainStep, in_flight_then, no_conf_sent_loud, no_error_for_all_loud, no_injection, nobody_waits_loud}
@@ -174,7 +174,7 @@ module _ (q : ℕ) where
   plain_loud (Injects e dst a) h = h
   plain_loud (Reroutes g x hops) h = tt
 
-  clean_loud : (e : Event) → IsNotInjected e → HasLoud IsNoInjection e
+  clean_loud : (e : Event) → InjectsNothing e → HasLoud IsNoInjection e
   clean_loud (AtNode n l) h = tt
   clean_loud (Waits ms) h = tt
   clean_loud (Pass n) h = tt
@@ -248,7 +248,7 @@ plain_first p plain n f there =
     (all_left (config_of p.quarter p.net (trees_of p.net.hops) n) n p.stale no_facts plain.stale (record { resvs = no_wish_at_first; wants = λ k x e. absurd (cc) }))
 
 -- ---- a run
-pub no_error_is_for_all : (p : Plan) → IsFitRun p → ((e : Event) → In e p.events → IsNotInjected e) → NoErrorIsForAll p
+pub no_error_is_for_all : (p : Plan) → IsFitRun p → ((e : Event) → In e p.events → InjectsNothing e) → NoErrorIsForAll p
 no_error_is_for_all p fit clean =
     errors_along p.quarter (steps_of_run p) (first_world p)
     (events_steps p.quarter fit.plan.period IsNoInjection (λ s c. no_injection s (calm_plain p.quarter s c)) p.events (λ e i. clean_loud p.quarter e (clean e i)) (first_world p))

@@ -19,12 +19,12 @@ IsPlainCall (AdvertAs s x) = Unit {0}
 IsPlainCall (WantAs s st names flow mark) = mark ≡ false
 IsPlainCall (QuitAll s) = Unit {0}
 
--- nothing is injected
-abbrev pub IsNotInjected : Event → Type 0
-IsNotInjected (Injects e dst a) = ⊥
-IsNotInjected _ = Unit {0}
+-- the event injects nothing
+abbrev pub InjectsNothing : Event → Type 0
+InjectsNothing (Injects e dst a) = ⊥
+InjectsNothing _ = Unit {0}
 
--- nor does a call ask for a confirmation
+-- nor does it ask for a confirmation
 abbrev pub IsPlainEvent : Event → Type 0
 IsPlainEvent (Injects e dst a) = ⊥
 IsPlainEvent (AtNode n l) = IsPlainCall l

@@ -13,7 +13,7 @@ ghost use Rattle.network_model.specs.Runs.{Plan, first_world, steps_of_run};
 ghost use Rattle.network_model.specs.Steps.{Step, machine};
 ghost use Rattle.network_model.specs.Worlds.{World};
 ghost use Rattle.laws_network.specs.Runs.{AreFitSenders, IsFitRun};
-ghost use Rattle.settle_refreshes.specs.Plain.{IsNotInjected, IsPlain, NoErrorIsForAll, StaysPlain, to_plain_refreshes};
+ghost use Rattle.settle_refreshes.specs.Plain.{InjectsNothing, IsPlain, NoErrorIsForAll, StaysPlain, to_plain_refreshes};
 ghost use Rattle.settle_refreshes.specs.Refreshes.{HasNothingElse, HasOnlyRefreshes, NothingGoesRound, to_refreshes};
 
 /// From any start, in each world 13 H + 14 calm rounds on, nothing is in flight but Paths, Resvs that ask for no confirmation, ResvConfs,
@@ -47,9 +47,9 @@ pub fn a_run_ends_in_refreshes()
 {}
 
 /// In the run of a fit script that injects nothing no ResvErr with a fixed or a shared filter that names nobody is ever in flight, nor a
-/// Resv that is answered by one: each refusal names its senders, and what a node sends can be read.
+/// Resv that is answered by one: both come from what is injected alone.
 pub fn no_error_is_for_all()
-    ensures { (p : Plan) → IsFitRun p → ((e : Event) → In e p.events → IsNotInjected e) → NoErrorIsForAll p }
+    ensures { (p : Plan) → IsFitRun p → ((e : Event) → In e p.events → InjectsNothing e) → NoErrorIsForAll p }
 {}
 
 /// And where nobody asks for a confirmation either, nobody ever waits for one, and in no world of the run is anything in flight that may go
