@@ -18,3 +18,6 @@ pub mod WantsByStyle
 pub mod Askable
 pub mod FollowedTexts
 pub mod Pieces
+pub mod Nested
+pub mod Wired
+pub mod Whole

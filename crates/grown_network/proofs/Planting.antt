@@ -42,7 +42,7 @@ each_append {A} {B} f (x ∷ xs) ys = ap (λ (zs : List B). f x ∷ zs) (each_ap
 pub tree_append : (xs ys : List TreeHop) (g s : Addr) → tree (xs ++ ys) g s ≡ tree xs g s ++ tree ys g s
 tree_append xs ys g s = ap (each (λ (t : TreeHop). t.hop)) (filter_append (of_tree g s) xs ys) ∙ each_append (λ (t : TreeHop). t.hop) (filter (of_tree g s) xs) (filter (of_tree g s) ys)
 
-tree_itself : (g s : Addr) (hs : List LinkHop) → tree (each (tree_hop g s) hs) g s ≡ hs
+pub tree_itself : (g s : Addr) (hs : List LinkHop) → tree (each (tree_hop g s) hs) g s ≡ hs
 tree_itself g s [] = refl
 tree_itself g s (h ∷ hs) = by (of_tree g s (tree_hop g s h)) (and_made (g.0 == g.0) (s.0 == s.0) (addr_itself g) (addr_itself s)) (tree_itself g s hs)
   where
