@@ -1,0 +1,4 @@
+pub mod Opening
+pub mod Fresh
+pub mod Worked
+pub mod Waves
