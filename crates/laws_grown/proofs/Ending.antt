@@ -33,6 +33,7 @@ use Rattle.grown_network.specs.Grown.{asked, grown_net, grown_plan, rounds_of, s
 use Rattle.grown_network.specs.Hosts.{senders, wants}
 use Rattle.grown_network.specs.Nodes.{names_up_to}
 use Rattle.laws_grown.specs.Runs.{AGrownRunIsItsDemand, EndsSettled, GrownRunsEndSettled, IsAsAsked}
+use Rattle.laws_grown.proofs.Crowding.{seeds_never_crowd}
 use Rattle.laws_grown.proofs.Fit.{grown_runs_are_fit}
 use Rattle.grown_network.proofs.Fitting.{grown_demands_fit}
 use Rattle.laws_grown.proofs.Sending.{send_step}
@@ -159,4 +160,4 @@ module _ (seed : ℕ) where
       ∙ demand
 
 pub a_grown_run_is_its_demand : AGrownRunIsItsDemand
-a_grown_run_is_its_demand seed free = run_is_demand seed free
+a_grown_run_is_its_demand seed = run_is_demand seed (seeds_never_crowd seed)

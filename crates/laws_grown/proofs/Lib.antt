@@ -11,3 +11,6 @@ pub mod Silent
 pub mod Ending
 pub mod Equal
 pub use Rattle.script_theorem.proofs as ScriptTheorem
+pub mod Opening
+pub mod FewSenders
+pub mod Crowding

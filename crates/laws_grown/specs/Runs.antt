@@ -1,8 +1,8 @@
 -- The run of a seed: at its end all is settled and stands as it was asked, and what it writes is the demand.
-use Rattle.std.specs.Prelude.{◌≡◌, ℕ, ◌++◌, false, List, [], ◌∷◌, None}
+use Rattle.std.specs.Prelude.{◌≡◌, ℕ, ◌++◌, List, [], ◌∷◌, None}
 use Rattle.network_model.specs.Bounds.{IsSettled}
 use Rattle.network_model.specs.Locals.{locals_of}
-use Rattle.network_model.specs.Runs.{first_world, is_crowded_run, run_text, steps_of_run}
+use Rattle.network_model.specs.Runs.{first_world, run_text, steps_of_run}
 use Rattle.network_model.specs.Steps.{Report, Step}
 use Rattle.network_model.specs.Worlds.{World}
 use Rattle.laws_network.specs.Runs.{AreFitSenders, IsFitRun}
@@ -36,6 +36,6 @@ pub record EndsSettled (seed : ℕ) : Type 0 where
 abbrev pub GrownRunsEndSettled : Type 0
 GrownRunsEndSettled = (seed : ℕ) → EndsSettled seed
 
--- ---- what it writes, unless it is crowded: the demand of all ends of its network, and nothing else
+-- ---- what it writes: the demand of all ends of its network, and nothing else
 abbrev pub AGrownRunIsItsDemand : Type 0
-AGrownRunIsItsDemand = (seed : ℕ) → is_crowded_run (grown_plan seed) ≡ false → run_text (grown_plan seed) ≡ demand_text (names_up_to 63) (grown_net seed) (asked seed) None
+AGrownRunIsItsDemand = (seed : ℕ) → run_text (grown_plan seed) ≡ demand_text (names_up_to 63) (grown_net seed) (asked seed) None

@@ -12,7 +12,7 @@ pub fn grown_runs_end_settled()
     ensures { GrownRunsEndSettled }
 {}
 
-/// So where it is not crowded, the run of a seed writes the demand of its network, whole and nothing besides.
+/// So the run of a seed writes the demand of its network, whole and nothing besides.
 pub fn a_grown_run_is_its_demand()
     ensures { AGrownRunIsItsDemand }
 {}

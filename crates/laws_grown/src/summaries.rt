@@ -1,7 +1,7 @@
 //! The laws.
 ghost use Rattle.laws_grown.specs.Equal.{AGrownNetworkIsAsDemanded};
 
-/// Whatever the seed, a run that is not crowded reports what is demanded: the last line of its summary is `equal yes`.
+/// Whatever the seed, its run reports what is demanded: the last line of its summary is `equal yes`.
 pub fn a_grown_network_is_as_demanded()
     ensures { AGrownNetworkIsAsDemanded }
 {}
