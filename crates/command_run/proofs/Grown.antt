@@ -1,5 +1,5 @@
 -- The run of a grown network, by its status: nothing is read for it, and where it is done it reports what is demanded.
-use Rattle.std.proofs.Common.{◌≡◌, ℕ, Bool, true, false, List, ◌++◌, Option, None, refl, sym, ap, subst, ◌∙◌, append_assoc}
+use Rattle.std.proofs.Common.{◌≡◌, ℕ, Bool, true, false, List, ◌++◌, Option, None, refl, sym, ap, subst, ◌∙◌, append_assoc, inl, inr}
 use Rattle.std.specs.Prelude.{◌≢◌, codes}
 use Rattle.std.specs.Fmt.{decimal}
 use Rattle.std.specs.Io.KnownBytes.{Appends}
@@ -19,13 +19,14 @@ use Rattle.laws_grown.proofs.ScriptTheorem.Safety.{fit_runs_are_safe}
 use Rattle.laws_grown.proofs.Fit.{grown_runs_are_fit}
 use Rattle.laws_grown.proofs.Ending.{a_grown_run_is_its_demand}
 use Rattle.laws_grown.proofs.Equal.{a_grown_network_is_as_demanded}
+use Rattle.laws_grown.proofs.Crowding.{seeds_never_crowd}
 use Rattle.grown_player.specs.Endings.{GrownSo, GrowsTo, IsGrownRun}
 use Rattle.command_run.specs.Commands.{Grown}
 use Rattle.command_run.specs.FirstLines.{IsLeftIn}
-use Rattle.command_run.specs.Growing.{EndsAsDemanded, EndsInEqualYes}
+use Rattle.command_run.specs.Growing.{EndsAsDemanded, EndsInEqualYes, IsEndOfGrowth}
 use Rattle.command_run.specs.Ran.{Device, HasFailed}
 use Rattle.command_run.specs.Statuses.{status_of}
-use Rattle.command_run.specs.declared.status.Status.TheVariants.{Done, ReadFault}
+use Rattle.command_run.specs.declared.status.Status.TheVariants.{Crowded, Done, ReadFault}
 use Rattle.command_run.proofs.FirstLines.{left_behind, left_nowhere}
 use Rattle.command_run.proofs.Answering.{or_no_memory}
 
@@ -37,6 +38,15 @@ never_reads stands ending.WriteFault seed before after run is = cc
 never_reads stands ending.NoMemory seed before after run is = cc
 never_reads stands ending.Crowded seed before after run is = cc
 never_reads stands ending.TooLong seed before after run is = cc
+
+pub never_crowds : (stands : Plan → Type 0) (e : Ending) (seed : ℕ) (before after : Option (List ℕ)) → IsGrownRun stands e seed before after → status_of e ≡ Crowded → ⊥
+never_crowds stands ending.Done seed before after run is = cc
+never_crowds stands (ending.BadLine number why) seed before after run is = cc
+never_crowds stands ending.ReadFault seed before after run is = cc
+never_crowds stands ending.WriteFault seed before after run is = cc
+never_crowds stands ending.NoMemory seed before after run is = cc
+never_crowds stands ending.Crowded seed before after run is = let crowds : true ≡ false = sym run.ended.0 ∙ seeds_never_crowd seed in cc
+never_crowds stands ending.TooLong seed before after run is = cc
 
 -- ---- done
 -- two pieces at the end are one
@@ -64,16 +74,16 @@ summary_says_so : (seed : ℕ) → is_as_demanded seed ≡ true → EndsInEqualY
 unfolding summary
 summary_says_so seed is = equal_yes (summary_of seed) is
 
-roomy_as_demanded : (seed : ℕ) (before after : Option (List ℕ)) (text : List ℕ) → is_crowded_run (grown_plan seed) ≡ false → text ≡ summary seed → Appends before after text
+roomy_as_demanded : (seed : ℕ) (before after : Option (List ℕ)) (text : List ℕ) → text ≡ summary seed → Appends before after text
     → EndsAsDemanded seed before after
-roomy_as_demanded seed before after text roomy is wrote = record {
-  reports = a_grown_run_is_its_demand seed roomy;
+roomy_as_demanded seed before after text is wrote = record {
+  reports = a_grown_run_is_its_demand seed;
   wrote = subst (λ (t : List ℕ). Appends before after t) is wrote;
-  says_so = summary_says_so seed (a_grown_network_is_as_demanded seed roomy);
+  says_so = summary_says_so seed (a_grown_network_is_as_demanded seed);
 }
 
 pub done_as_demanded : (stands : Plan → Type 0) (e : Ending) (seed : ℕ) (before after : Option (List ℕ)) → status_of e ≡ Done → IsGrownRun stands e seed before after → EndsAsDemanded seed before after
-done_as_demanded stands ending.Done seed before after is run = roomy_as_demanded seed before after run.text run.ended.0 run.ended.1 run.wrote
+done_as_demanded stands ending.Done seed before after is run = roomy_as_demanded seed before after run.text run.ended.1 run.wrote
 done_as_demanded stands (ending.BadLine number why) seed before after is run = absurd (cc is)
 done_as_demanded stands ending.ReadFault seed before after is run = absurd (cc is)
 done_as_demanded stands ending.WriteFault seed before after is run = absurd (cc is)
@@ -82,6 +92,15 @@ done_as_demanded stands ending.Crowded seed before after is run = absurd (cc is)
 done_as_demanded stands ending.TooLong seed before after is run = absurd (cc is)
 
 -- ---- however it ended
+ends_so : (stands : Plan → Type 0) (e : Ending) (seed : ℕ) (text : List ℕ) → GrownSo stands e seed text → IsEndOfGrowth (status_of e)
+ends_so stands ending.Done seed text ended = inl refl
+ends_so stands (ending.BadLine number why) seed text ended = absurd ended
+ends_so stands ending.ReadFault seed text ended = absurd ended
+ends_so stands ending.WriteFault seed text ended = inr (inl refl)
+ends_so stands ending.NoMemory seed text ended = inr (inr refl)
+ends_so stands ending.Crowded seed text ended = absurd (let crowds : true ≡ false = sym ended.0 ∙ seeds_never_crowd seed in cc)
+ends_so stands ending.TooLong seed text ended = absurd ended
+
 module _ {R : Type 0} (see : Seen R) (last : Option (NetworkState R)) where
   safe_growth : (seed : ℕ) → IsSafe (grown_plan seed)
   safe_growth seed = fit_runs_are_safe (grown_plan seed) (grown_runs_are_fit seed).run
@@ -103,5 +122,6 @@ module _ {R : Type 0} (see : Seen R) (last : Option (NetworkState R)) where
     safe = safe_growth seed;
     left = left_so e seed run.text empty run.ended;
     as_demanded = λ done. done_as_demanded (IsNetworkOf see last) e seed sink.old sink.new done run;
-    complete = λ wanted grows quiet. or_no_memory wanted e (complete wanted grows quiet);
+    ends = ends_so (IsNetworkOf see last) e seed run.text run.ended;
+    complete = λ quiet. or_no_memory ending.Done e (complete ending.Done (seeds_never_crowd seed) (λ is. quiet));
   }

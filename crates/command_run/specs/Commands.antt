@@ -14,12 +14,11 @@ use Rattle.script_words.specs.Lines.{text_lines}
 use Rattle.script_demand.specs.Demanding.{DemandsTo}
 use Rattle.script_run.specs.Standing.{IsNetworkOf}
 use Rattle.grown_network.specs.Grown.{grown_plan}
-use Rattle.grown_player.specs.Endings.{GrowsTo}
 use Rattle.laws_grown.specs.ScriptTheorem.Theorem.{IsSafe}
 use Rattle.command_run.specs.Advised.{IsAdvised, IsShowAdvised}
 use Rattle.command_run.specs.Demanding.{IsDemand}
 use Rattle.command_run.specs.FirstLines.{HasRunFirstLines, IsLeftIn, IsSafeFile, lines_run}
-use Rattle.command_run.specs.Growing.{EndsAsDemanded, IsGrowth}
+use Rattle.command_run.specs.Growing.{EndsAsDemanded, IsEndOfGrowth, IsGrowth}
 use Rattle.command_run.specs.Healing.{EndsInItsDemand, IsHealingRun, WritesWithinCapacity}
 use Rattle.command_run.specs.Policing.{Policed}
 use Rattle.command_run.specs.Ran.{Device, HasFailed, IsUnread, Ran}
@@ -83,8 +82,10 @@ pub record Grown {R : Type 0} (see : Seen R) (last : Option (NetworkState R)) (s
   pub left : IsLeftIn see last (grown_plan seed)
   -- a network that was grown and run to its end reports exactly what is demanded: the last line of its summary is `equal yes`
   pub as_demanded : status ≡ Done → EndsAsDemanded seed sink.old sink.new
-  -- nothing else ends it where the sink does not fail
-  pub complete : (wanted : Ending) → GrowsTo wanted seed → (wanted ≡ ends.Done → HasFailed sink → ⊥) → IsOrNoMemory (status_of wanted) status
+  -- it is done, or the sink failed, or memory ran out: the run of no seed is crowded
+  pub ends : IsEndOfGrowth status
+  -- where the sink does not fail nothing but want of memory keeps it from being done
+  pub complete : (HasFailed sink → ⊥) → IsOrNoMemory Done status
 
 -- the words are no command: nothing is taken or written
 pub record NotOrdered (r : Ran) : Type 0 where

@@ -1,5 +1,5 @@
 -- The run of a grown network, by its status.
-use Rattle.std.specs.Prelude.{◌≡◌, ℕ, ◌++◌, List, Option, codes}
+use Rattle.std.specs.Prelude.{◌≡◌, ◌⊎◌, ℕ, ◌++◌, List, Option, codes}
 use Rattle.std.specs.Io.KnownBytes.{Appends}
 use Rattle.network_model.specs.Runs.{Plan, run_text}
 use Rattle.script_run.specs.declared.ending.Ending.{Ending}
@@ -8,10 +8,15 @@ use Rattle.grown_network.specs.Summaries.{demanded, summary}
 use Rattle.grown_player.specs.Endings.{IsGrownRun}
 use Rattle.command_run.specs.Statuses.{status_of}
 use Rattle.command_run.specs.declared.status.Status.{Status}
+use Rattle.command_run.specs.declared.status.Status.TheVariants.{Done, WriteFault, NoMemory}
 
 -- the network of a seed was run and a text was written to a sink, and the run had this status
 abbrev pub IsGrowth : (Plan → Type 0) → Status → ℕ → Option (List ℕ) → Option (List ℕ) → Type 0
 IsGrowth stands status seed before after = (e : Ending) × (status ≡ status_of e) × IsGrownRun stands e seed before after
+
+-- it is done, or the sink failed, or memory ran out: no seed's run is crowded
+abbrev pub IsEndOfGrowth : Status → Type 0
+IsEndOfGrowth status = (status ≡ Done) ⊎ ((status ≡ WriteFault) ⊎ (status ≡ NoMemory))
 
 -- the last line of a text is `equal yes`
 abbrev pub EndsInEqualYes : List ℕ → Type 0

@@ -18,8 +18,8 @@ use std::alloc::Global;
 /// demanded, the last line of the summary is `equal yes`, and `last` holds the network in which the run ended; else `last` stays
 /// empty. `watch` sees all that happens.
 ///
-/// `Crowded` comes before `WriteFault`, and nothing is written then. `NoMemory` may come at any time before the first byte is
-/// written.
+/// The run of no seed is crowded, so that it is done, or the sink fails (`WriteFault`), or memory runs out: `NoMemory` may come at any
+/// time before the first byte is written.
 pub fn grow<R: Opens, K: Sink, W: Watch>(
     alloc: Global,
     seed: u64,
@@ -31,6 +31,7 @@ pub fn grow<R: Opens, K: Sink, W: Watch>(
     ensures grown { Grown R.seen last.new seed result (device K.holds K.faults sink.old sink.new) }
     ensures told { result ≡ Status.Done → Shows W.saw watch.old watch.new (plan_sights (grown_plan seed)) }
     ensures usage { result ≢ Status.Usage }
+    ensures crowded { result ≢ Status.Crowded }
     ensures empty { result ≢ Status.Done → last.new ≡ None }
     ensures read_fault { result ≢ Status.ReadFault }
     ensures write_fault { result ≡ Status.WriteFault → Rose (K.faults sink.old) (K.faults sink.new) }
